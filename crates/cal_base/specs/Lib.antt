@@ -1,0 +1,16 @@
+pub mod Causes
+pub mod Contents
+pub mod MemFiles
+pub mod MemSink
+pub mod Numbers
+pub mod Memory
+pub mod Pages
+pub mod Updates
+pub mod Arithmetic
+pub mod Stores
+pub mod Answers
+pub mod After
+pub mod History
+pub mod Claims
+pub mod Main
+pub mod Text

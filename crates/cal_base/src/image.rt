@@ -1,0 +1,117 @@
+//! Shared memory.
+
+ghost use Rattle.std.specs.Prelude.{◌≡◌, ◌<◌, ◌≤◌, ◌*◌, ◌+◌, ◌/◌, ℕ, ℤ, Some, All, IfOk, length, slice_get, slice_index_or, slice_set, replicate, fold, pos};
+ghost use Rattle.cal_base.specs.Memory.{memory_of, kinds_of, value_at, with_value};
+ghost use Rattle.cal_base.specs.Pages.{first_memory, page_count, Paged, page_size, page_of, version_of, next_version, IsLater};
+
+use crate::step::WordKind;
+use crate::NoMemory;
+use std::alloc::Global;
+use std::marker::Model;
+
+/// How many words a page has.
+pub const PAGE: u32 = 64;
+
+/// How many words an image has at most.
+pub const MOST_WORDS: u32 = 262_144;
+
+/// A memory of 64-bit words, in pages that have versions.
+#[derive(Drop)]
+pub struct Image {
+    kinds: Vec<WordKind>,
+    values: Vec<i64>,
+    versions: Vec<Option<u64>>,
+}
+
+impl Model for Image {
+    ghost use Rattle.cal_base.specs.Memory.{memory_of};
+    ghost use Rattle.cal_base.specs.Pages.{Paged, IsInPages};
+
+    ghost Value = { Paged };
+
+    ghost view = { λ i. record { memory = memory_of i.kinds.items i.values.items; versions = i.versions.items } };
+
+    ghost invariant = { λ i. IsInPages i.kinds.items i.values.items i.versions.items };
+}
+
+impl Image {
+    /// An image whose words are ordinary but for the tallies, and 0 but for the stated values.
+    pub fn make(
+        alloc: Global,
+        words: u32,
+        tallies: &[u32],
+        stated: &[(u32, i64)],
+    ) -> Result<Image, NoMemory>
+        requires limit { words ≤ 262144 }
+        requires tallies { All (λ a. a < words) tallies.now }
+        requires stated { All (λ entry. entry.0 < words) stated.now }
+        ensures memory { IfOk result (λ image. image.memory ≡ first_memory words tallies.now stated.now) }
+        ensures versions { IfOk result (λ image. image.versions ≡ replicate (page_count words) (Some 0)) }
+    {
+        let pages = words.div_ceil(PAGE) as usize;
+        let mut kinds = vec![in alloc; WordKind::Ordinary; words as usize]?;
+        for a in tallies {
+            kinds[*a as usize] = WordKind::Tally;
+        }
+        let mut values = vec![in alloc; 0i64; 64 * pages]?;
+        for entry in stated {
+            values[entry.0 as usize] = entry.1;
+        }
+        Ok(Image {
+            kinds,
+            values,
+            versions: vec![in alloc; Some(0u64); pages]?,
+        })
+    }
+
+    pub fn len(&self) -> u32
+        ensures words { result ≡ length self.now.memory }
+        ensures limit { length self.now.memory ≤ 262144 }
+    {
+        self.kinds.len() as u32
+    }
+
+    pub fn word(&self, a: u32) -> i64
+        requires { a < length self.now.memory }
+        ensures { result ≡ value_at self.now.memory a }
+    {
+        self.values[a as usize]
+    }
+
+    pub fn kind(&self, a: u32) -> WordKind
+        requires { a < length self.now.memory }
+        ensures { slice_get (kinds_of self.now.memory) a ≡ Some result }
+    {
+        self.kinds[a as usize]
+    }
+
+    /// The version of a page, unless it passed 64 bits.
+    pub fn version(&self, p: u32) -> Option<u64>
+        requires { page_size * p < length self.now.memory }
+        ensures { result ≡ version_of self.now p }
+    {
+        self.versions[p as usize]
+    }
+
+    /// Writes one word.
+    pub fn set(&mut self, a: u32, v: i64)
+        requires { a < length self.old.memory }
+        ensures memory { self.new.memory ≡ with_value self.old.memory a v }
+        ensures versions { self.new.versions ≡ slice_set self.old.versions (page_of a) (next_version (version_of self.old (page_of a))) }
+        ensures later { IsLater self.old self.new }
+    {
+        let p = (a / PAGE) as usize;
+        self.values[a as usize] = v;
+        self.versions[p] = raised(self.versions[p]);
+    }
+}
+
+// The version after a write.
+fn raised(version: Option<u64>) -> Option<u64>
+    ensures { result ≡ next_version version }
+{
+    match version {
+        None => None,
+        Some(v) => { if v < u64::MAX { Some(v + 1) } else { None } }
+    }
+}

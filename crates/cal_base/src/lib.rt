@@ -1,0 +1,33 @@
+//! What all of Calypso stands on: the outside as the program sees it, how a routine, a step and a run end,
+//! shared memory and updates, and what a parallel step means.
+#![tactic(auto)]
+
+pub mod answer;
+pub mod ends;
+mod host;
+pub mod image;
+pub mod job;
+mod memory_file;
+mod memory_files;
+mod memory_sink;
+pub mod outside;
+pub mod step;
+pub mod update;
+pub mod value;
+mod whole;
+
+pub use answer::Answer;
+pub use ends::{Cause, Overflow, RoutineEnd, RunEnd, StepFault};
+pub use host::{HostFiles, HostSink};
+pub use image::Image;
+pub use job::JobName;
+pub use memory_files::MemFiles;
+pub use memory_sink::MemSink;
+pub use outside::{Failed, Files, Gate, LoadError, NoMemory, OpenGate, Point, Sink};
+pub use step::{CALLER, Claimed, Entry, Verdict, Word, WordKind, WorkerTally};
+pub use update::{KeptUpdate, UpdateWords};
+pub use value::{Store, Val};
+pub use whole::{append_all, write_all};
+
+#[cfg(test)]
+mod tests;

@@ -1,0 +1,57 @@
+//! The laws of parallel steps. Each is the contract of a function that does nothing.
+
+ghost use Rattle.step_laws.specs.Laws.{
+  PrefixesAreLegal,
+  DeliveredGrows,
+  WantedShrinks,
+  MergedIsMeant,
+  LowerAnswersAgree,
+  NoSecondFirst,
+  EachFirstOnce,
+  ClaimsAreBounded,
+  ClaimsAreRight,
+  CallerDeliversFirst,
+  OneWriterEach,
+};
+ghost use Rattle.cal_base.specs.Pages.{LaterIsTransitive, WritesAreLater};
+
+/// What comes first in a legal history is legal. Along it more is delivered and less is wanted.
+pub fn prefixes_of_a_history()
+    ensures legal { PrefixesAreLegal }
+    ensures delivered { DeliveredGrows }
+    ensures wanted { WantedShrinks }
+{}
+
+/// Whatever was lost, repeated or late: a legal history that is complete leaves what all answers leave.
+pub fn merge_of_a_complete_history()
+    ensures merged { MergedIsMeant }
+    ensures lower_answers { LowerAnswersAgree }
+{}
+
+/// Each answer that counts is merged exactly once.
+pub fn first_deliveries()
+    ensures no_second { NoSecondFirst }
+    ensures each_once { EachFirstOnce }
+{}
+
+/// A legal history ends.
+pub fn number_of_claims()
+    ensures { ClaimsAreBounded }
+{}
+
+/// The answers to claims are those of the rule in words, and the caller can end each step.
+pub fn answers_to_claims()
+    ensures right { ClaimsAreRight }
+    ensures caller { CallerDeliversFirst }
+{}
+
+/// Where nothing is faulty, each ordinary word has one writer at most.
+pub fn writers_of_a_word()
+    ensures { OneWriterEach }
+{}
+
+/// Writes make an image later.
+pub fn later_images()
+    ensures transitive { LaterIsTransitive }
+    ensures writes { WritesAreLater }
+{}
