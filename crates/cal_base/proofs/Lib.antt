@@ -1,5 +1,5 @@
 pub mod Named
 pub mod Pieces
 pub mod Images
-pub mod Entries
+pub mod Updates
 pub mod Later

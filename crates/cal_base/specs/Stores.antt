@@ -1,8 +1,10 @@
 -- Reading, writing and adding to words, in main and in a routine.
-use Rattle.std.specs.Prelude.{◌≡◌, ℕ, ℤ, pos, ◌+ℤ◌, List, Option, Some, None, Result, Ok, Err, slice_get}
+use Rattle.std.specs.Prelude.{◌≡◌, ℕ, ℤ, pos, ◌+ℤ◌, Result, Ok, Err, slice_get}
 use Rattle.std.specs.Option.{unwrap_or, option_map_or}
 use Rattle.std.specs.FinMap.{get, insert, empty}
 use Rattle.cal_base.specs.declared.ends.Cause.{Cause}
+use Rattle.cal_base.specs.declared.ends.Cause.TheVariants.{Overflow}
+use Rattle.cal_base.specs.declared.ends.Overflow.{Overflow as OverflowMet}
 use Rattle.cal_base.specs.declared.step.WordKind.{WordKind}
 use Rattle.cal_base.specs.declared.step.WordKind.TheVariants.{Ordinary, Tally}
 use Rattle.cal_base.specs.Arithmetic.{checked}
@@ -53,3 +55,8 @@ with_sum store address (Err cause) = Err cause
 -- an adding reads, adds and writes; a sum outside 64 bits is an overflow
 abbrev pub add_word : Store → ℕ → ℤ → Result Store Cause
 add_word store address value = with_sum store address (checked (base_of store address +ℤ value))
+
+-- an adding ended so: with the store that holds the sum, or, where the sum overflows, with the store as it was
+abbrev pub Adds : Store → ℕ → ℤ → Store → Result (Unit {0}) OverflowMet → Type 0
+Adds before address value later (Ok done) = add_word before address value ≡ Ok later
+Adds before address value later (Err met) = (add_word before address value ≡ Err Overflow) × (later ≡ before)

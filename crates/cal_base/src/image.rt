@@ -4,8 +4,8 @@ ghost use Rattle.std.specs.Prelude.{◌≡◌, ◌<◌, ◌≤◌, ◌*◌, ◌+
 ghost use Rattle.cal_base.specs.Memory.{memory_of, kinds_of, value_at, with_value};
 ghost use Rattle.cal_base.specs.Pages.{first_memory, page_count, Paged, page_size, page_of, version_of, next_version, IsLater};
 
-use crate::step::WordKind;
 use crate::NoMemory;
+use crate::step::WordKind;
 use std::alloc::Global;
 use std::marker::Model;
 

@@ -15,6 +15,7 @@ pub mod step;
 pub mod update;
 pub mod value;
 mod whole;
+pub mod words;
 
 pub use answer::Answer;
 pub use ends::{Cause, Overflow, RoutineEnd, RunEnd, StepFault};
@@ -28,6 +29,7 @@ pub use step::{CALLER, Claimed, Entry, Verdict, Word, WordKind, WorkerTally};
 pub use update::{KeptUpdate, UpdateWords};
 pub use value::{Store, Val};
 pub use whole::{append_all, write_all};
+pub use words::Words;
 
 #[cfg(test)]
 mod tests;
