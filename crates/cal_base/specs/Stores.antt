@@ -1,6 +1,6 @@
 -- Reading, writing and adding to words, in main and in a routine.
-use Rattle.std.specs.Prelude.{◌≡◌, ℕ, ℤ, pos, ◌+ℤ◌, Result, Ok, Err, slice_get}
-use Rattle.std.specs.Option.{unwrap_or, option_map_or}
+use Rattle.std.specs.Prelude.{◌≡◌, ℕ, ℤ, pos, ◌+ℤ◌, Result, Ok, Err}
+use Rattle.std.specs.Option.{unwrap_or}
 use Rattle.std.specs.FinMap.{get, insert, empty}
 use Rattle.cal_base.specs.declared.ends.Cause.{Cause}
 use Rattle.cal_base.specs.declared.ends.Cause.TheVariants.{Overflow}
@@ -8,7 +8,7 @@ use Rattle.cal_base.specs.declared.ends.Overflow.{Overflow as OverflowMet}
 use Rattle.cal_base.specs.declared.step.WordKind.{WordKind}
 use Rattle.cal_base.specs.declared.step.WordKind.TheVariants.{Ordinary, Tally}
 use Rattle.cal_base.specs.Arithmetic.{checked}
-use Rattle.cal_base.specs.Memory.{Memory, value_at, with_value}
+use Rattle.cal_base.specs.Memory.{Memory, kind_at, value_at, with_value}
 use Rattle.cal_base.specs.Updates.{Written}
 pub use Rattle.cal_base.specs.declared.value.Store.{Store}
 pub use Rattle.cal_base.specs.declared.value.Store.TheVariants.{Main, Routine}
@@ -22,10 +22,6 @@ memory_in (Routine opening written) = opening
 abbrev pub written_in : Store → Written
 written_in (Main memory) = empty
 written_in (Routine opening written) = written
-
--- the kind of a word; a word that is not there is ordinary
-abbrev pub kind_at : Memory → ℕ → WordKind
-kind_at memory address = option_map_or (λ word. word.kind) (slice_get memory address) Ordinary
 
 -- a word reads as the routine's own last write, else as the memory has it
 abbrev pub read_word : Store → ℕ → ℤ

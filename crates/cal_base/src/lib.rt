@@ -20,7 +20,7 @@ pub mod words;
 pub use answer::Answer;
 pub use ends::{Cause, Overflow, RoutineEnd, RunEnd, StepFault};
 pub use host::{HostFiles, HostSink};
-pub use image::Image;
+pub use image::{Image, MOST_WORDS, PAGE};
 pub use job::JobName;
 pub use memory_files::MemFiles;
 pub use memory_sink::MemSink;
