@@ -33,7 +33,7 @@ abbrev pub write_word : Store → ℕ → ℤ → Store
 write_word (Main memory) address value = Main (with_value memory address value)
 write_word (Routine opening written) address value = Routine opening (insert written address value)
 
--- what a routine adds to: the word as it reads, or its running sum of a tally word, which begins at 0
+-- what a routine adds to: an ordinary word as it reads, or its own running sum of a tally word, which begins at 0
 abbrev pub routine_base : WordKind → Memory → Written → ℕ → ℤ
 routine_base Ordinary opening written address = unwrap_or (get written address) (value_at opening address)
 routine_base Tally opening written address = unwrap_or (get written address) (pos 0)
