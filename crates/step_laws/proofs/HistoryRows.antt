@@ -1,60 +1,39 @@
--- Worked examples of histories.
-use Rattle.std.proofs.Common.{◌≡◌, ℕ, zero, suc, [], ◌∷◌, refl, arith, replicate}
-use Rattle.std.specs.FinMap.{empty}
-use Rattle.std.specs.Ordering.{nat_cmp}
-use Rattle.cal_base.specs.declared.step.Verdict.TheVariants.{First, Again, Unasked}
-use Rattle.cal_base.specs.declared.step.Claimed.TheVariants.{Work, Spent}
-use Rattle.cal_base.specs.declared.step.Entry.TheVariants.{Claim, Arrive}
+-- The worked examples of claims, arrivals and whole histories, computed.
+use Rattle.std.proofs.Common.{◌≡◌, ℕ, zero, suc, refl, arith}
 use Rattle.cal_base.specs.Numbers.{least_below, lightest_below}
-use Rattle.cal_base.specs.declared.answer.Answer.TheVariants.{Update}
-use Rattle.cal_base.specs.After.{least_faulty, is_faulty, shared_word}
-use Rattle.cal_base.specs.History.{History}
-use Rattle.cal_base.specs.Claims.{StepJob, claimed, verdict_on, IsLegal, IsComplete}
+use Rattle.cal_base.specs.After.{after, least_faulty, is_faulty, shared_word, fault_of, merged_memory}
+use Rattle.step_laws.specs.Rows
+use Rattle.step_laws.proofs.Rows.{get_none, get_one}
 
--- a step of routines that write nothing
-abbrev quiet : ℕ → StepJob
-quiet n = record { number = 1; opening = []; answers = replicate n (Update (empty {R = nat_cmp})) }
-
--- with one routine and no arrival, a worker's 35th claim is granted and the 36th is not, and the caller's still is
-claim_35 : claimed (quiet 1) (replicate 34 (Claim 0 0)) 0 ≡ Work 0
+pub claim_35 : Rows.Claim35
 unfolding least_faulty is_faulty shared_word least_below lightest_below
 claim_35 = refl
 
-claim_36 : claimed (quiet 1) (replicate 35 (Claim 0 0)) 0 ≡ Spent
+pub claim_36 : Rows.Claim36
 unfolding least_faulty is_faulty shared_word least_below lightest_below
 claim_36 = refl
 
-claim_caller : claimed (quiet 1) (replicate 35 (Claim 0 0)) 32 ≡ Work 0
+pub caller_still_claims : Rows.CallerStillClaims
 unfolding least_faulty is_faulty shared_word least_below lightest_below
-claim_caller = refl
+caller_still_claims = refl
 
--- an arrival that nobody claimed counts for nothing
-unasked : verdict_on (quiet 2) [] 0 1 1 ≡ Unasked
-unasked = refl
-
-still_wanted : claimed (quiet 2) (Arrive 0 1 1 Unasked ∷ []) 0 ≡ Work 0
+pub claims_go_round : Rows.ClaimsGoRound
 unfolding least_faulty is_faulty shared_word least_below lightest_below
-still_wanted = refl
+claims_go_round = (refl, refl, refl)
 
--- a worker delivers twice
-twice : History
-twice = Claim 0 0 ∷ Arrive 0 1 0 First ∷ Arrive 0 1 0 Again ∷ []
+pub nothing_left : Rows.NothingLeft
+unfolding least_faulty is_faulty shared_word least_below lightest_below
+nothing_left = refl
 
-twice_is_legal : IsLegal (quiet 1) twice
-unfolding twice least_faulty is_faulty shared_word least_below lightest_below
-twice_is_legal = (
-  record { known = omega arith; answered = refl; caller_has_left = λ e. absurd (omega arith) },
-  (
-    record { known = omega arith; not_later = omega arith; small = omega arith; in_range = λ _. omega arith; judged = refl; entered = λ e. cc; caller_is_current = λ e. absurd (omega arith); caller_has_left = λ e. absurd (omega arith) },
-    (
-      record { known = omega arith; not_later = omega arith; small = omega arith; in_range = λ _. omega arith; judged = refl; entered = λ e. cc; caller_is_current = λ e. absurd (omega arith); caller_has_left = λ e. absurd (omega arith) },
-      tt,
-    ),
-  ),
-)
+pub unasked_is_no_delivery : Rows.UnaskedIsNoDelivery
+unfolding least_faulty is_faulty shared_word least_below lightest_below
+unasked_is_no_delivery = (refl, refl)
 
--- and then nothing is wanted
-twice_is_complete : IsComplete (quiet 1) twice
-unfolding twice least_faulty is_faulty shared_word least_below lightest_below
-twice_is_complete zero = refl
-twice_is_complete (suc k) = grind arith
+pub older_is_stale : Rows.OlderIsStale
+older_is_stale = refl
+
+pub arrival_102 : Rows.Arrival102
+arrival_102 = refl
+
+pub arrival_103 : Rows.Arrival103
+arrival_103 = refl

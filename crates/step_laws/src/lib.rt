@@ -14,6 +14,36 @@ ghost use Rattle.step_laws.specs.Laws.{
   OneWriterEach,
 };
 ghost use Rattle.cal_base.specs.Pages.{LaterIsTransitive, WritesAreLater};
+ghost use Rattle.step_laws.specs.Rows.{
+  DivisionCuts,
+  LeastByMinusOne,
+  ZeroDivisor,
+  ReadsItsWrites,
+  SumBeginsAtZero,
+  AddsToWhatItReads,
+  SumOverflows,
+  WordsOfTheirOwn,
+  TwoWriters,
+  TwoEqualWriters,
+  ThreeWriters,
+  LeastSharedWord,
+  LeastTrap,
+  FailedWroteNothing,
+  ConflictBelowTrap,
+  SumOfNumbers,
+  TotalOutside,
+  LeastTotal,
+  TotalInside,
+  Claim35,
+  Claim36,
+  CallerStillClaims,
+  ClaimsGoRound,
+  NothingLeft,
+  UnaskedIsNoDelivery,
+  OlderIsStale,
+  Arrival102,
+  Arrival103,
+};
 
 /// What comes first in a legal history is legal. Along it more is delivered and less is wanted.
 pub fn prefixes_of_a_history()
@@ -54,4 +84,44 @@ pub fn writers_of_a_word()
 pub fn later_images()
     ensures transitive { LaterIsTransitive }
     ensures writes { WritesAreLater }
+{}
+
+/// Worked examples of numbers and words.
+pub fn worked_words()
+    ensures division { DivisionCuts }
+    ensures least { LeastByMinusOne }
+    ensures zero { ZeroDivisor }
+    ensures reads { ReadsItsWrites }
+    ensures sums { SumBeginsAtZero }
+    ensures adds { AddsToWhatItReads }
+    ensures overflow { SumOverflows }
+{}
+
+/// Worked examples of what a step leaves.
+pub fn worked_steps()
+    ensures apart { WordsOfTheirOwn }
+    ensures conflict { TwoWriters }
+    ensures equal_values { TwoEqualWriters }
+    ensures three_writers { ThreeWriters }
+    ensures least_word { LeastSharedWord }
+    ensures least_trap { LeastTrap }
+    ensures failed { FailedWroteNothing }
+    ensures conflict_first { ConflictBelowTrap }
+    ensures sum { SumOfNumbers }
+    ensures total { TotalOutside }
+    ensures least_total { LeastTotal }
+    ensures inside { TotalInside }
+{}
+
+/// Worked examples of claims and arrivals.
+pub fn worked_claims()
+    ensures granted { Claim35 }
+    ensures spent { Claim36 }
+    ensures caller { CallerStillClaims }
+    ensures round { ClaimsGoRound }
+    ensures done { NothingLeft }
+    ensures unasked { UnaskedIsNoDelivery }
+    ensures stale { OlderIsStale }
+    ensures taken { Arrival102 }
+    ensures full { Arrival103 }
 {}
