@@ -1,9 +1,10 @@
 -- The worked examples, computed.
-use Rattle.std.proofs.Common.{◌≡◌, ℕ, zero, suc, cond, refl, ap, ◌∙◌, Some, None, ℤ, pos, arith}
+use Rattle.std.proofs.Common.{◌≡◌, ℕ, cond, refl, ap, ◌∙◌, Some, None, ℤ}
 use Rattle.std.specs.FinMap.{empty, insert, get, get-insert, get-empty}
 use Rattle.std.specs.Cmp.{nat_cmp_total}
+use Rattle.std.specs.Fmt.{digits}
 use Rattle.std.specs.Ordering.{nat_cmp, eq_by_cmp}
-use Rattle.cal_base.specs.Numbers.{least_below, lightest_below}
+use Rattle.cal_base.specs.Numbers.{least_below}
 use Rattle.cal_base.specs.After.{after, least_faulty, is_faulty, shared_word, fault_of, merged_memory}
 use Rattle.step_laws.specs.Rows
 
@@ -84,3 +85,22 @@ least_total = simp get_two
 pub total_inside : Rows.TotalInside
 unfolding after least_faulty is_faulty shared_word least_below fault_of merged_memory
 total_inside = simp get_one
+
+pub one_step : Rows.OneStep
+unfolding after least_faulty is_faulty shared_word least_below fault_of merged_memory
+one_step = simp get_one
+
+pub second_step_fails : Rows.SecondStepFails
+unfolding after least_faulty is_faulty shared_word least_below fault_of merged_memory
+second_step_fails = (simp get_one, simp get_one)
+
+pub steps_are_shown : Rows.StepsAreShown
+unfolding digits
+steps_are_shown = refl
+
+pub lines_alone : Rows.LinesAlone
+lines_alone = refl
+
+pub fault_lines : Rows.FaultLines
+unfolding digits
+fault_lines = (refl, refl, refl, refl, refl)

@@ -1,5 +1,5 @@
 -- Worked examples of what a step leaves and of histories, each computed from the definitions.
-use Rattle.std.specs.Prelude.{◌≡◌, ℕ, ◌-◌, ◌^◌, List, [], ◌∷◌, ◌++◌, replicate, ℤ, pos, negsuc, Bool, true, false, Result, Ok, Err, codes}
+use Rattle.std.specs.Prelude.{◌≡◌, ℕ, ◌-◌, ◌^◌, List, [], ◌∷◌, ◌++◌, map, replicate, ℤ, pos, negsuc, true, false, Result, Ok, Err, codes}
 use Rattle.std.specs.FinMap.{empty, insert}
 use Rattle.std.specs.Ordering.{nat_cmp}
 use Rattle.cal_base.specs.declared.ends.Cause.TheVariants.{DivisionByZero, OutOfRange, Assertion, Overflow}
@@ -14,7 +14,7 @@ use Rattle.cal_base.specs.declared.step.Claimed.TheVariants.{Work, AllDone, Spen
 use Rattle.cal_base.specs.declared.step.Entry.TheVariants.{Claim, Arrive}
 use Rattle.cal_base.specs.Memory.{Memory}
 use Rattle.cal_base.specs.Arithmetic.{quotient, remainder}
-use Rattle.cal_base.specs.declared.value.Store.TheVariants.{Main, Routine}
+use Rattle.cal_base.specs.declared.value.Store.TheVariants.{Main as OfMain, Routine}
 use Rattle.cal_base.specs.Stores.{read_word, add_word}
 use Rattle.cal_base.specs.declared.answer.Answer.{Answer}
 use Rattle.cal_base.specs.declared.answer.Answer.TheVariants.{Update, Fault}
@@ -22,7 +22,7 @@ use Rattle.cal_base.specs.Answers.{all_of}
 use Rattle.cal_base.specs.After.{after}
 use Rattle.cal_base.specs.History.{History}
 use Rattle.cal_base.specs.Claims.{StepJob, claimed, verdict_on, IsLegal, IsComplete, merged}
-use Rattle.cal_base.specs.Main.{Event, Line, Step}
+use Rattle.cal_base.specs.Main.{Main, Ends, Shows, Opens, Event, Line, Step, meaning_of, steps_of}
 use Rattle.cal_base.specs.Text.{text_of, fault_line}
 
 -- an ordinary word
@@ -76,7 +76,7 @@ SumBeginsAtZero =
 abbrev pub AddsToWhatItReads : Type 0
 AddsToWhatItReads =
     add_word (Routine (ordinary (pos 7) ∷ []) empty) 0 (pos 1) ≡ Ok (Routine (ordinary (pos 7) ∷ []) (insert empty 0 (pos 8)))
-    × add_word (Main (tally (pos 7) ∷ [])) 0 (pos 1) ≡ Ok (Main (tally (pos 8) ∷ []))
+    × add_word (OfMain (tally (pos 7) ∷ [])) 0 (pos 1) ≡ Ok (OfMain (tally (pos 8) ∷ []))
 
 -- a running sum outside 64 bits is an overflow
 abbrev pub SumOverflows : Type 0
@@ -200,38 +200,91 @@ Arrival103 = verdict_on (quiet 1 1) (delivered_often 101) 0 1 0 ≡ Full
 -- ---- whole histories
 
 -- a history that is legal and complete and merges to this
-abbrev pub Ends : StepJob → History → Result Memory StepFault → Type 0
-Ends job history result = IsLegal job history × IsComplete job history × merged job history ≡ result
+abbrev pub EndsSo : StepJob → History → Result Memory StepFault → Type 0
+EndsSo job history result = IsLegal job history × IsComplete job history × merged job history ≡ result
 
--- a worker delivers twice, and that counts once
+-- a step of one routine that adds 5 to a tally word
+abbrev pub adding : StepJob
+adding = record { number = 1; opening = tally (pos 0) ∷ []; answers = one 0 (pos 5) ∷ [] }
+
+-- a worker delivers twice
+abbrev pub twice : History
+twice = Claim 0 0 ∷ Arrive 0 1 0 First ∷ Arrive 0 1 0 Again ∷ []
+
+-- what is delivered twice counts once
 abbrev pub DeliveredTwice : Type 0
-DeliveredTwice =
-    Ends (record { number = 1; opening = tally (pos 0) ∷ []; answers = one 0 (pos 5) ∷ [] })
-    (Claim 0 0 ∷ Arrive 0 1 0 First ∷ Arrive 0 1 0 Again ∷ [])
-    (Ok (tally (pos 5) ∷ []))
+DeliveredTwice = EndsSo adding twice (Ok (tally (pos 5) ∷ []))
 
--- a delivery of the step before arrives and counts for nothing
+-- the second step, of one routine that writes 2
+abbrev pub second : StepJob
+second = record { number = 2; opening = ordinary (pos 1) ∷ []; answers = one 0 (pos 2) ∷ [] }
+
+-- a delivery that was held over from the first step arrives in the second
+abbrev pub late : History
+late = Arrive 0 1 0 Stale ∷ Claim 0 0 ∷ Arrive 0 2 0 First ∷ []
+
+-- it counts for nothing
 abbrev pub DeliveredLate : Type 0
-DeliveredLate =
-    Ends (record { number = 2; opening = ordinary (pos 1) ∷ []; answers = one 0 (pos 2) ∷ [] })
-    (Arrive 0 1 0 Stale ∷ Claim 0 0 ∷ Arrive 0 2 0 First ∷ [])
-    (Ok (ordinary (pos 2) ∷ []))
+DeliveredLate = EndsSo second late (Ok (ordinary (pos 2) ∷ []))
 
--- the fault of routine 3 arrives first, and the caller delivers 0 and 1, behind which nothing is wanted: routine 1 is named
+-- a step of four routines: routine 3 divides by zero and routine 1 is out of range
+abbrev pub two_traps : StepJob
+two_traps = record {
+  number = 1;
+  opening = replicate 5 (ordinary (pos 0));
+  answers = one 0 (pos 0) ∷ Fault OutOfRange ∷ one 2 (pos 2) ∷ Fault DivisionByZero ∷ [];
+}
+
+-- the fault of routine 3 arrives first, and the caller delivers 0 and 1
+abbrev pub upper_fault_first : History
+upper_fault_first =
+    Claim 0 0 ∷ Claim 1 1 ∷ Claim 2 2 ∷ Claim 3 3 ∷ Arrive 3 1 3 First
+    ∷ Claim CALLER 0 ∷ Arrive CALLER 1 0 First ∷ Claim CALLER 1 ∷ Arrive CALLER 1 1 First ∷ []
+
+-- then nothing is wanted, and routine 1 is named
 abbrev pub FaultArrivesFirst : Type 0
-FaultArrivesFirst =
-    Ends (record { number = 1; opening = replicate 5 (ordinary (pos 0)); answers = one 0 (pos 0) ∷ Fault OutOfRange ∷ one 2 (pos 2) ∷ Fault DivisionByZero ∷ [] })
-    (Claim 0 0 ∷ Claim 1 1 ∷ Claim 2 2 ∷ Claim 3 3 ∷ Arrive 3 1 3 First
-    ∷ Claim CALLER 0 ∷ Arrive CALLER 1 0 First ∷ Claim CALLER 1 ∷ Arrive CALLER 1 1 First ∷ [])
-    (Err (Trap 1 OutOfRange))
+FaultArrivesFirst = EndsSo two_traps upper_fault_first (Err (Trap 1 OutOfRange))
 
--- routines 2, 3 and 1, which write one word, arrive in this order: the conflict is of routine 2 with routine 1
+-- a step of four routines, three of which write one word
+abbrev pub three_writers : StepJob
+three_writers = record {
+  number = 1;
+  opening = ordinary (pos 0) ∷ [];
+  answers = Update empty ∷ one 0 (pos 1) ∷ one 0 (pos 2) ∷ one 0 (pos 3) ∷ [];
+}
+
+-- routines 2, 3 and 1 arrive in this order
+abbrev pub out_of_order : History
+out_of_order =
+    Claim 0 0 ∷ Claim 1 1 ∷ Claim 2 2 ∷ Claim 3 3 ∷ Arrive 2 1 2 First ∷ Arrive 3 1 3 First ∷ Arrive 1 1 1 First
+    ∷ Claim CALLER 0 ∷ Arrive CALLER 1 0 First ∷ []
+
+-- the conflict is of routine 2 with routine 1
 abbrev pub ConflictInAnyOrder : Type 0
-ConflictInAnyOrder =
-    Ends (record { number = 1; opening = ordinary (pos 0) ∷ []; answers = Update empty ∷ one 0 (pos 1) ∷ one 0 (pos 2) ∷ one 0 (pos 3) ∷ [] })
-    (Claim 0 0 ∷ Claim 1 1 ∷ Claim 2 2 ∷ Claim 3 3 ∷ Arrive 2 1 2 First ∷ Arrive 3 1 3 First ∷ Arrive 1 1 1 First
-    ∷ Claim CALLER 0 ∷ Arrive CALLER 1 0 First ∷ [])
-    (Err (Conflict 2 0 1))
+ConflictInAnyOrder = EndsSo three_writers out_of_order (Err (Conflict 2 0 1))
+
+-- ---- meanings
+
+-- a main that opens a step, shows a line and ends
+abbrev pub one_step_main : Main
+one_step_main = Opens adding (λ later. Shows (codes "done" ++ 10 ∷ []) (Ends (Done 1)))
+
+-- its events are the step and the line, and its end is reached
+abbrev pub OneStep : Type 0
+OneStep =
+    meaning_of one_step_main
+    ≡ record { events = Step 1 1 (tally (pos 0) ∷ []) (tally (pos 5) ∷ []) ∷ Line (codes "done" ++ 10 ∷ []) ∷ []; ending = Done 1 }
+
+-- a main whose second step fails
+abbrev pub failing_main : Main
+failing_main = Opens adding (λ later. Opens (record second { answers = Fault Assertion ∷ [] }) (λ later. Ends (Done 2)))
+
+-- the meaning ends with the fault of that step, and both steps were opened
+abbrev pub SecondStepFails : Type 0
+SecondStepFails =
+    meaning_of failing_main
+    ≡ record { events = Step 1 1 (tally (pos 0) ∷ []) (tally (pos 5) ∷ []) ∷ []; ending = StepFailed 2 (Trap 0 Assertion) }
+    × map (λ job. job.number) (steps_of failing_main) ≡ 1 ∷ 2 ∷ []
 
 -- ---- texts
 

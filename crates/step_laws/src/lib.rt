@@ -1,4 +1,5 @@
 //! The laws of parallel steps. Each is the contract of a function that does nothing.
+#![tactic(auto)]
 
 ghost use Rattle.step_laws.specs.Laws.{
   PrefixesAreLegal,
@@ -43,6 +44,15 @@ ghost use Rattle.step_laws.specs.Rows.{
   OlderIsStale,
   Arrival102,
   Arrival103,
+  DeliveredTwice,
+  DeliveredLate,
+  FaultArrivesFirst,
+  ConflictInAnyOrder,
+  OneStep,
+  SecondStepFails,
+  StepsAreShown,
+  LinesAlone,
+  FaultLines,
 };
 
 /// What comes first in a legal history is legal. Along it more is delivered and less is wanted.
@@ -124,4 +134,21 @@ pub fn worked_claims()
     ensures stale { OlderIsStale }
     ensures taken { Arrival102 }
     ensures full { Arrival103 }
+{}
+
+/// Worked examples of whole histories.
+pub fn worked_histories()
+    ensures twice { DeliveredTwice }
+    ensures late { DeliveredLate }
+    ensures fault_first { FaultArrivesFirst }
+    ensures any_order { ConflictInAnyOrder }
+{}
+
+/// Worked examples of what a run means and of its text.
+pub fn worked_texts()
+    ensures step { OneStep }
+    ensures fails { SecondStepFails }
+    ensures shown { StepsAreShown }
+    ensures lines { LinesAlone }
+    ensures faults { FaultLines }
 {}

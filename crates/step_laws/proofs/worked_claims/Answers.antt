@@ -27,4 +27,3 @@ returns-clause-taken c = HistoryRows.arrival_102
 
 pub returns-clause-full : goal.returns-clause-full
 returns-clause-full c = HistoryRows.arrival_103
-

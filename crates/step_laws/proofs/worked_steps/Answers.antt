@@ -36,4 +36,3 @@ returns-clause-least_total c = Rows.least_total
 
 pub returns-clause-inside : goal.returns-clause-inside
 returns-clause-inside c = Rows.total_inside
-
