@@ -198,6 +198,11 @@ module _ (p : Program) (calls : Calls) (in_main : MainOnly → Locals → Run We
     went ← effect s.form locals
     go_on went (statements rest)
 
+  -- the step statement of a loop: none in a `while`
+  abbrev pub step_of : Option Stmt → Locals → Run Locals
+  step_of None locals = pure locals
+  step_of (Some s) locals = locals_after (statements (s ∷ [])) locals
+
 -- in a function or a routine an accepted program has none of main's statements
 abbrev pub nowhere : MainOnly → Locals → Run Went
 nowhere statement locals = pure (ending.Normal, locals)
