@@ -1,7 +1,8 @@
 -- What holds of each part of a run holds of every expression, statement and call.
-use Rattle.std.proofs.Common.{◌≡◌, ℕ, zero, suc, ℤ, Bool, true, false, if◌then◌else◌, List, [], ◌∷◌, Option, Some, None, Result, Ok, Err, unwrap_or, length, map}
+use Rattle.std.proofs.Common.{◌≡◌, ℕ, zero, suc, ℤ, Bool, true, false, if◌then◌else◌, List, [], ◌∷◌, Option, Some, None, Result, Ok, Err, unwrap_or, length, map, sum, ◌≤◌, nat_le, refl}
+use Rattle.std.proofs.lemmas.Bool.{leb-true}
 use Rattle.cal_base.specs.declared.ends.Cause.{Cause}
-use Rattle.cal_base.specs.declared.ends.Cause.TheVariants.{Assertion, OutOfRange, TooDeep, FuelSpent}
+use Rattle.cal_base.specs.declared.ends.Cause.TheVariants.{Assertion, OutOfRange, TooDeep, FuelSpent, BadWidth}
 use Rattle.cal_base.specs.declared.value.Val.{Val}
 use Rattle.cal_base.specs.declared.value.Val.TheVariants as val
 use Rattle.csl_tree.specs.declared.program.Program.{Program}
@@ -12,6 +13,9 @@ use Rattle.csl_tree.specs.declared.program.Node as node
 use Rattle.csl_tree.specs.declared.program.Place.{Place, Place', None', Some'}
 use Rattle.csl_tree.specs.declared.program.Call.{Call, Call'}
 use Rattle.csl_tree.specs.declared.program.Stmt.{Stmt}
+use Rattle.csl_tree.specs.declared.program.Item.{Item}
+use Rattle.csl_tree.specs.declared.program.Item.TheVariants as item
+use Rattle.csl_tree.specs.declared.program.RoutineBlock.{RoutineBlock, RoutineBlock'}
 use Rattle.csl_tree.specs.declared.program.Arm.{Arm'}
 use Rattle.csl_tree.specs.declared.program.Form.{Form, Declare, Set, AddTo, If', While', For', Break, Continue, Return, CallOf, Assert, Block', Print, Par', Row_of-Arm, end_of-Arm, more_of-Arm, Row_of-Stmt, end_of-Stmt, more_of-Stmt, Held-Form-If-1}
 use Rattle.csl_tree.specs.declared.program.Form as form
@@ -24,7 +28,8 @@ use Rattle.csl_meaning.specs.Locals.{Locals, declare, local_value, set_local, bo
 use Rattle.csl_meaning.specs.Operators.{number_in, truth_in, as_int, unary, binary, decided}
 use Rattle.csl_meaning.specs.Runs.{Outcome, Run, ◌>>=◌, ◌>>◌, pure, stop, try, take_unit, word_at, put_word, raise_word}
 use Rattle.csl_meaning.specs.Value.{Calls, value, read, result, boxed, values, value_of, item_at, in_range, declared, read_as_int, read_name, unless}
-use Rattle.csl_meaning.specs.Effect.{Went, MainOnly, Printing, Stepping, go_on, after_body, leave, scoped, locals_after, turn, turns, loop, assert, set_name, add_to_name, set, add_to, returned, blocks_in, effect, in_order, choose, otherwise, statements, step_of, nowhere, given_back, function_named, run_function, calls_to}
+use Rattle.csl_meaning.specs.Effect.{Went, MainOnly, Printing, Stepping, go_on, after_body, leave, scoped, locals_after, turn, turns, loop, assert, set_name, add_to_name, set, add_to, returned, blocks_in, effect, in_order, choose, otherwise, statements, step_of, nowhere, given_back, function_named, run_function, calls_to, most_levels}
+use Rattle.csl_meaning.specs.Meaning.{show, line_of, pieces, widths_of, naturals, good_widths, most_routines, open_step, in_main}
 
 -- what is to hold of each run, from every world
 abbrev pub Always : ((A : Type 0) → World → Outcome A → Type 0) → {A : Type 0} → Run A → Type 0
@@ -125,7 +130,7 @@ module _ (Holds : (A : Type 0) → World → Outcome A → Type 0) (parts : OfPa
   of_after_body (ending.Break, locals) again h = gives _
   of_after_body (ending.Return v, locals) again h = gives _
 
-  of_scoped : (body : Locals → Run Went) → ((l : Locals) → Always Holds (body l)) → (locals : Locals) → Always Holds (scoped body locals)
+  pub of_scoped : (body : Locals → Run Went) → ((l : Locals) → Always Holds (body l)) → (locals : Locals) → Always Holds (scoped body locals)
   of_scoped body h locals = chain (h locals) (λ went. gives _)
 
   of_locals : (run : Locals → Run Went) → ((l : Locals) → Always Holds (run l)) → (locals : Locals) → Always Holds (locals_after run locals)
@@ -213,7 +218,7 @@ module _ (Holds : (A : Type 0) → World → Outcome A → Type 0) (parts : OfPa
       of_step None locals = gives locals
       of_step (Some s) locals = of_locals _ (of_statements (s ∷ [])) locals
 
-    of_nowhere : (statement : MainOnly) (l : Locals) → Always Holds (nowhere statement l)
+    pub of_nowhere : (statement : MainOnly) (l : Locals) → Always Holds (nowhere statement l)
     of_nowhere statement l = gives _
 
     of_function : (f : Option Function) (given : List Val) → Always Holds (run_function p calls f given)
@@ -224,3 +229,40 @@ module _ (Holds : (A : Type 0) → World → Outcome A → Type 0) (parts : OfPa
   unfolding calls_to
   of_calls_to p zero name given = stops TooDeep
   of_calls_to p (suc levels) name given = of_function p (calls_to p levels) (of_calls_to p levels) (function_named p.functions name) given
+
+-- a statement that ended normally
+abbrev pub ended : Locals → Run Went
+ended locals = pure (ending.Normal, locals)
+
+-- main's own parts
+pub record OfMainParts (Holds : (A : Type 0) → World → Outcome A → Type 0) (p : Program) (fuel : ℕ) : Type 1 where
+  pub of_show : (line : List ℕ) → Always Holds (show line)
+  pub of_opening : (blocks : List RoutineBlock) (widths : List ℕ) (locals : Locals) → sum widths ≤ most_routines → Always Holds (take_unit >> (open_step p fuel blocks widths >> ended locals))
+
+module _ (Holds : (A : Type 0) → World → Outcome A → Type 0) (parts : OfParts Holds) (p : Program) (fuel : ℕ) (main_parts : OfMainParts Holds p fuel) where
+  module _ (locals : Locals) where
+    of_width : (e : Expr) → Always Holds (value_of p (calls_to p most_levels) locals e)
+    of_width e = of_expr Holds parts p (calls_to p most_levels) (of_calls_to Holds parts p most_levels) locals e
+
+    of_pieces : (items : List Item) → Always Holds (pieces p (calls_to p most_levels) locals items)
+    of_pieces [] = gives Holds parts []
+    of_pieces (item.Text text ∷ rest) = chain Holds parts (of_pieces rest) (λ texts. gives Holds parts _)
+    of_pieces (item.Value e ∷ rest) = chain Holds parts (of_width e) (λ v. chain Holds parts (of_pieces rest) (λ texts. gives Holds parts _))
+
+    of_widths : (blocks : List RoutineBlock) → Always Holds (widths_of p (calls_to p most_levels) locals blocks)
+    of_widths [] = gives Holds parts []
+    of_widths (RoutineBlock' at width width_name id_name shape body ∷ rest) =
+        chain Holds parts (of_width width) (λ v. chain Holds parts (of_widths rest) (λ widths. gives Holds parts _))
+
+    of_test : (b : Bool) (blocks : List RoutineBlock) (widths : List ℕ) → nat_le (sum widths) most_routines ≡ b
+        → Always Holds ((if b then pure widths else stop BadWidth) >>= (λ ns. take_unit >> (open_step p fuel blocks ns >> ended locals)))
+    of_test true blocks widths e = main_parts.of_opening blocks widths locals (leb-true (sum widths) most_routines e)
+    of_test false blocks widths e = parts.of_stop _ BadWidth
+
+    of_good : (widths : Option (List ℕ)) (blocks : List RoutineBlock) → Always Holds (good_widths widths >>= (λ ns. take_unit >> (open_step p fuel blocks ns >> ended locals)))
+    of_good None blocks = parts.of_stop _ BadWidth
+    of_good (Some widths) blocks = of_test (nat_le (sum widths) most_routines) blocks widths refl
+
+  pub of_in_main : (statement : MainOnly) (locals : Locals) → Always Holds (in_main p fuel statement locals)
+  of_in_main (Printing items) locals = chain Holds parts (of_pieces locals items) (λ texts. chain Holds parts (main_parts.of_show (line_of texts)) (λ _. gives Holds parts (ending.Normal, locals)))
+  of_in_main (Stepping blocks) locals = chain Holds parts (of_widths locals blocks) (λ numbers. of_good locals (naturals numbers) blocks)

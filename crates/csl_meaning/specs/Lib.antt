@@ -6,3 +6,4 @@ pub mod Value
 pub mod Effect
 pub mod Routines
 pub mod Meaning
+pub mod Laws
