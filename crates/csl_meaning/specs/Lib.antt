@@ -7,3 +7,4 @@ pub mod Effect
 pub mod Routines
 pub mod Meaning
 pub mod Laws
+pub mod Rows
