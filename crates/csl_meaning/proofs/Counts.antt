@@ -120,7 +120,7 @@ bounded (Stops cause w) fuel steps h = omega arith
 bounded (ShowsLine line rest) fuel steps h = bounded rest fuel steps h
 bounded (OpensStep job rest) fuel steps h =
     let behind : length (steps_behind (meant job) (λ later. steps_of (main_of (rest later)))) ≤ fuel - 1 =
-        length_behind (meant job) (λ later. steps_of (main_of (rest later))) (fuel - 1) (λ later. bounded (rest later) (fuel - 1) (suc steps) (h.3 later)) in
+    length_behind (meant job) (λ later. steps_of (main_of (rest later))) (fuel - 1) (λ later. bounded (rest later) (fuel - 1) (suc steps) (h.3 later)) in
     let some : 1 ≤ fuel = h.0 in
     omega arith
 

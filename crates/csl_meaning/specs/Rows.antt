@@ -98,7 +98,7 @@ abbrev print : List Item → Stmt
 print items = s (form.Print items)
 
 -- routine[n](int w, int id) { body }
-abbrev routine : Expr → List Stmt → RoutineBlock
+abbrev pub routine : Expr → List Stmt → RoutineBlock
 routine width body = roll-RoutineBlock (record { at = 0; width = width; width_name = named (codes "w"); id_name = named (codes "id"); body = body })
 
 abbrev parallel : List RoutineBlock → Stmt
@@ -110,6 +110,14 @@ id = var (codes "id")
 -- print(a[0], a[1]);
 abbrev print_pair : Stmt
 print_pair = print (item.Value (read (at_item (codes "a") (number 0))) ∷ item.Value (read (at_item (codes "a") (number 1))) ∷ [])
+
+-- id / 8
+abbrev row : Expr
+row = two id Div (number 8)
+
+-- id % 8
+abbrev column : Expr
+column = two id Rem (number 8)
 
 abbrev main_alone : List Shared → List Stmt → Program
 main_alone shared main = record { shared = shared; functions = []; main = main }
@@ -152,6 +160,16 @@ squares = main_alone (array (codes "a") 4 [] ∷ scalar (codes "s") ∷ [])
 abbrev pub SumOfSquares : Type 0
 SumOfSquares = written true (meaning squares 1000000) ≡
     (line (codes "step 1") ++ line (codes "word 1 = 1") ++ line (codes "word 2 = 4") ++ line (codes "word 3 = 9") ++ line (codes "sum 14"), [])
+
+abbrev pub OneStepIsDone : Type 0
+OneStepIsDone = (meaning squares 1000000).ending ≡ Done 1
+
+-- one unit for the step and one for each turn; the routines have fuel of their own
+abbrev pub FuelForSquares : Type 0
+FuelForSquares = Writes squares 5 (line (codes "sum 14")) []
+
+abbrev pub NoFuelForSquares : Type 0
+NoFuelForSquares = Writes squares 4 [] (line (codes "fault: after step 1: fuel spent"))
 
 -- shared { int a[2] = {1, 2}; } main { parbegin routine[2](int w, int id) { a[id] = a[1 - id]; } parend; print(a[0], a[1]); }
 abbrev pub swapped : Program
@@ -233,10 +251,10 @@ TrappedWritesNothing = Writes fails_after_write 1000000 [] (line (codes "fault: 
 abbrev pub two_trap : Program
 two_trap = main_alone (array (codes "a") 4 [] ∷ scalar (codes "z") ∷ [])
     (parallel (routine (number 4)
-        (when (two id Eq (number 3)) (set (at_item (codes "a") (number 0)) (two (number 1) Div (var (codes "z"))) ∷ []) None
-        ∷ when (two id Eq (number 1)) (set (at_item (codes "a") (two (number 4) Add id)) (number 1) ∷ []) None
-        ∷ set (at_item (codes "a") id) id
-        ∷ []) ∷ [])
+    (when (two id Eq (number 3)) (set (at_item (codes "a") (number 0)) (two (number 1) Div (var (codes "z"))) ∷ []) None
+    ∷ when (two id Eq (number 1)) (set (at_item (codes "a") (two (number 4) Add id)) (number 1) ∷ []) None
+    ∷ set (at_item (codes "a") id) id
+    ∷ []) ∷ [])
     ∷ [])
 
 abbrev pub LeastFaultyIsNamed : Type 0
@@ -256,8 +274,8 @@ SumOfTallies = Writes tallied 1000000 (line (codes "28")) []
 abbrev pub total_too_large : Program
 total_too_large = main_alone (tally (codes "t") ∷ [])
     (parallel (routine (number 2)
-        (when (two id Eq (number 0)) (add_to (at_name (codes "t")) (number 9223372036854775807) ∷ []) (Some (add_to (at_name (codes "t")) (number 1) ∷ []))
-        ∷ []) ∷ [])
+    (when (two id Eq (number 0)) (add_to (at_name (codes "t")) (number 9223372036854775807) ∷ []) (Some (add_to (at_name (codes "t")) (number 1) ∷ []))
+    ∷ []) ∷ [])
     ∷ [])
 
 abbrev pub TotalOutOfRange : Type 0
@@ -319,3 +337,46 @@ guarded = main_alone (scalar (codes "z") ∷ [])
 
 abbrev pub RightIsSkipped : Type 0
 RightIsSkipped = Writes guarded 1000000 (line (codes "false")) []
+
+-- shared { int a[64]; int b[64]; int c[64]; }
+-- int cell(int r, int q) { int v = 0; for (int k = 0; k < 8; k += 1) { v += a[r * 8 + k] * b[k * 8 + q]; } return v; }
+-- main {
+--   parbegin routine[64](int w, int id) { a[id] = id / 8 + id % 8; if (id / 8 == id % 8) { b[id] = 2; } } parend;
+--   parbegin routine[64](int w, int id) { c[id] = cell(id / 8, id % 8); } parend;
+--   int s = 0; for (int i = 0; i < 64; i += 1) { s += c[i]; } print("sum", s, "last", c[63]);
+-- }
+-- c[id] = cell(id / 8, id % 8);
+abbrev pub multiply : Stmt
+multiply = set (at_item (codes "c") id) (call (codes "cell") (row ∷ column ∷ []))
+
+abbrev pub products : Program
+products = record {
+  shared = array (codes "a") 64 [] ∷ array (codes "b") 64 [] ∷ array (codes "c") 64 [] ∷ [];
+  functions = record {
+    name = named (codes "cell");
+    gives = gives.Int;
+    params = record { name = named (codes "r"); ty = ty.Int } ∷ record { name = named (codes "q"); ty = ty.Int } ∷ [];
+    body =
+        declare (codes "v") (number 0)
+        ∷ count_to (codes "k") 8
+        (add_to (at_name (codes "v")) (two (read (at_item (codes "a") (two (two (var (codes "r")) Mul (number 8)) Add (var (codes "k"))))) Mul (read (at_item (codes "b") (two (two (var (codes "k")) Mul (number 8)) Add (var (codes "q")))))) ∷ [])
+        ∷ s (form.Return (Some (var (codes "v"))))
+        ∷ [];
+  } ∷ [];
+  main =
+      parallel (routine (number 64)
+      (set (at_item (codes "a") id) (two row Add column)
+      ∷ when (two row Eq column) (set (at_item (codes "b") id) (number 2) ∷ []) None
+      ∷ []) ∷ [])
+      ∷ parallel (routine (number 64) (multiply ∷ []) ∷ [])
+      ∷ declare (codes "s") (number 0)
+      ∷ count_to (codes "i") 64 (add_to (at_name (codes "s")) (read (at_item (codes "c") (var (codes "i")))) ∷ [])
+      ∷ print (item.Text (named (codes "sum")) ∷ item.Value (var (codes "s")) ∷ item.Text (named (codes "last")) ∷ item.Value (read (at_item (codes "c") (number 63))) ∷ [])
+      ∷ [];
+}
+
+abbrev pub FuelForProducts : Type 0
+FuelForProducts = Writes products 66 (line (codes "sum 896 last 28")) []
+
+abbrev pub NoFuelForProducts : Type 0
+NoFuelForProducts = Writes products 65 [] (line (codes "fault: after step 2: fuel spent"))
