@@ -1,18 +1,15 @@
 -- The bound on a loop's turns does not matter, as long as it is at least the fuel.
-use Rattle.std.proofs.Common.{◌≡◌, ℕ, zero, suc, ◌+◌, ◌-◌, ◌<◌, ◌≤◌, Bool, true, false, if◌then◌else◌, refl, sym, ap, ◌∙◌, arith, List, Option}
+use Rattle.std.proofs.Common.{◌≡◌, ℕ, zero, suc, ◌-◌, ◌<◌, ◌≤◌, Bool, true, false, if◌then◌else◌, refl, sym, ap, ◌∙◌, arith}
 use Rattle.cal_base.specs.declared.ends.Cause.TheVariants.{FuelSpent}
 use Rattle.cal_base.specs.declared.value.Val.{Val}
-use Rattle.cal_base.specs.Memory.{Memory}
 use Rattle.csl_tree.specs.declared.program.Program.{Program}
-use Rattle.csl_tree.specs.declared.program.Expr.{Expr}
-use Rattle.csl_tree.specs.declared.program.Stmt.{Stmt}
 use Rattle.csl_meaning.specs.declared.state.World.{World}
 use Rattle.csl_meaning.specs.declared.state.Ending.TheVariants as ending
 use Rattle.csl_meaning.specs.Locals.{Locals}
 use Rattle.csl_meaning.specs.Operators.{truth_in}
 use Rattle.csl_meaning.specs.Runs.{Outcome, Gives, Stops, ShowsLine, OpensStep, Run, and_then, ◌>>=◌, ◌>>◌, pure, stop, spend, take_unit}
 use Rattle.csl_meaning.specs.Value.{Calls, value_of}
-use Rattle.csl_meaning.specs.Effect.{Went, MainOnly, turn, turns, loop, after_body, scoped, statements, step_of, nowhere, calls_to, most_levels}
+use Rattle.csl_meaning.specs.Effect.{Went, MainOnly, turn, turns, after_body, scoped, statements, step_of, nowhere, calls_to, most_levels}
 use Rattle.csl_meaning.specs.Meaning.{in_main}
 use Rattle.csl_meaning.specs.Laws.{BoundIsEnough, BoundIsEnoughInMain, BoundIsEnoughElsewhere}
 use Rattle.csl_meaning.proofs.Parts.{Always, OfCalls, of_expr, of_statements, of_step, of_scoped, of_calls_to, of_nowhere, of_in_main}

@@ -1,5 +1,5 @@
 -- Fuel and steps along a run.
-use Rattle.std.proofs.Common.{◌≡◌, ℕ, zero, suc, ◌+◌, ◌-◌, ◌<◌, ◌≤◌, ℤ, pos, negsuc, Bool, true, false, if◌then◌else◌, IsTrue, List, [], ◌∷◌, ◌++◌, Option, Some, None, Result, Ok, Err, refl, sym, ap, ◌∙◌, subst, arith, length, map, sum, nat_le}
+use Rattle.std.proofs.Common.{◌≡◌, ℕ, zero, suc, ◌+◌, ◌-◌, ◌≤◌, List, [], ◌∷◌, Result, Ok, Err, refl, ap, ◌∙◌, subst, arith, length, map, sum}
 use Rattle.std.proofs.lemmas.List.{length-append, length-map}
 use Rattle.std.proofs.lemmas.List.Sums.{sum_by-cons}
 use Rattle.cal_base.specs.declared.ends.Cause.{Cause}
@@ -8,17 +8,15 @@ use Rattle.cal_base.specs.declared.value.Store.{Store}
 use Rattle.cal_base.specs.Memory.{Memory}
 use Rattle.cal_base.specs.Stores.{memory_in, add_word}
 use Rattle.cal_base.specs.Claims.{StepJob, size_of, meant}
-use Rattle.cal_base.specs.Main.{Main, Ends, Shows, Opens, steps_of, steps_behind, IsNumbered}
+use Rattle.cal_base.specs.Main.{steps_of, steps_behind, IsNumbered}
 use Rattle.csl_tree.specs.declared.program.Program.{Program}
 use Rattle.csl_tree.specs.declared.program.RoutineBlock.{RoutineBlock}
-use Rattle.csl_meaning.specs.declared.state.Ending.TheVariants as ending
 use Rattle.csl_meaning.specs.declared.state.World.{World}
 use Rattle.csl_meaning.specs.Locals.{Locals}
-use Rattle.csl_meaning.specs.Runs.{Outcome, Gives, Stops, ShowsLine, OpensStep, Run, and_then, ◌>>=◌, ◌>>◌, pure, stop, spend, take_unit, with_store}
-use Rattle.csl_meaning.specs.Value.{Calls, value_of}
-use Rattle.csl_meaning.specs.Effect.{Went, MainOnly, Printing, Stepping, calls_to, most_levels}
+use Rattle.csl_meaning.specs.Runs.{Outcome, Gives, Stops, ShowsLine, OpensStep, Run, and_then, ◌>>◌, spend, with_store}
+use Rattle.csl_meaning.specs.Effect.{calls_to, most_levels}
 use Rattle.csl_meaning.specs.Routines.{answer, answers, counted}
-use Rattle.csl_meaning.specs.Meaning.{show, pieces, widths_of, naturals, good_widths, most_routines, open_step, in_main, first_world, run_of, main_of, main}
+use Rattle.csl_meaning.specs.Meaning.{most_routines, open_step, in_main, first_world, run_of, main_of}
 use Rattle.csl_meaning.specs.Laws.{StepsAreNumbered, StepsAreBounded}
 use Rattle.csl_meaning.proofs.Parts.{Always, OfParts, OfMainParts, ended, of_calls_to, of_statements, of_in_main}
 

@@ -1,5 +1,5 @@
 -- The worked examples, by computing.
-use Rattle.std.proofs.Common.{◌≡◌, refl, ℕ, ℤ, pos, cond, Some, None, ap, ◌∙◌, List, [], ◌∷◌, Ok, Err, true, false}
+use Rattle.std.proofs.Common.{◌≡◌, refl, ℕ, ℤ, pos, cond, Some, None, ap, List, [], ◌∷◌, Ok, Err, true, false}
 use Rattle.std.specs.Fmt.{digits}
 use Rattle.std.specs.FinMap.{FinMap, empty, insert, get, get-insert, get-empty}
 use Rattle.std.specs.Cmp.{nat_cmp_total}
@@ -12,11 +12,11 @@ use Rattle.csl_tree.specs.declared.program.RoutineBlock.{roll-RoutineBlock}
 use Rattle.csl_tree.specs.declared.program.Arm.{roll-Arm}
 use Rattle.csl_tree.specs.declared.program.BinaryOp.TheVariants.{Div, Rem}
 use denote.Hole.Carrier.{hidden, roll}
-use Rattle.cal_base.specs.declared.ends.Cause.TheVariants.{Assertion, OutOfRange}
+use Rattle.cal_base.specs.declared.ends.Cause.TheVariants.{Assertion, OutOfRange, FuelSpent}
 use Rattle.cal_base.specs.declared.ends.StepFault.TheVariants.{Trap, Conflict, Total}
 use Rattle.cal_base.specs.declared.step.WordKind.TheVariants.{Ordinary, Tally}
 use Rattle.cal_base.specs.Numbers.{least_below}
-use Rattle.cal_base.specs.Memory.{Memory, memory_of}
+use Rattle.cal_base.specs.Memory.{Memory}
 use Rattle.cal_base.specs.Claims.{meant}
 use Rattle.cal_base.specs.After.{after, least_faulty, is_faulty, shared_word, fault_of, merged_memory}
 use Rattle.csl_meaning.specs.Effect.{calls_to}
@@ -211,3 +211,43 @@ calls_too_deep = refl
 pub right_is_skipped : rows.RightIsSkipped
 unfolding shape-the_row-Expr-0 hidden-the_row-Expr-0 shape-the_row-Expr-1 hidden-the_row-Expr-1 shape-the_row-Stmt-1 hidden-the_row-Stmt-1 shape-the_row-Stmt-2 hidden-the_row-Stmt-2 shape-the_row-RoutineBlock-3 hidden-the_row-RoutineBlock-3 shape-the_row-Arm-0 hidden-the_row-Arm-0 roll-Place roll-Call roll-RoutineBlock roll-Arm hidden roll digits calls_to
 right_is_skipped = refl
+
+pub bad_width_comes_first : rows.BadWidthComesFirst
+unfolding shape-the_row-Expr-0 hidden-the_row-Expr-0 shape-the_row-Expr-1 hidden-the_row-Expr-1 shape-the_row-Stmt-1 hidden-the_row-Stmt-1 shape-the_row-Stmt-2 hidden-the_row-Stmt-2 shape-the_row-RoutineBlock-3 hidden-the_row-RoutineBlock-3 shape-the_row-Arm-0 hidden-the_row-Arm-0 roll-Place roll-Call roll-RoutineBlock roll-Arm hidden roll digits calls_to
+bad_width_comes_first = refl
+
+fuel_of_their_own_leaves : meant (first_step (main rows.own_loops 3)) ≡ Ok (ordinary (pos 3 ∷ pos 3 ∷ []))
+unfolding shape-the_row-Expr-0 hidden-the_row-Expr-0 shape-the_row-Expr-1 hidden-the_row-Expr-1 shape-the_row-Stmt-1 hidden-the_row-Stmt-1 shape-the_row-Stmt-2 hidden-the_row-Stmt-2 shape-the_row-RoutineBlock-3 hidden-the_row-RoutineBlock-3 shape-the_row-Arm-0 hidden-the_row-Arm-0 roll-Place roll-Call roll-RoutineBlock roll-Arm hidden roll digits calls_to after least_faulty is_faulty shared_word least_below fault_of merged_memory
+fuel_of_their_own_leaves = simp (get_insert, get_none)
+
+pub fuel_of_their_own : rows.FuelOfTheirOwn
+unfolding shape-the_row-Expr-0 hidden-the_row-Expr-0 shape-the_row-Expr-1 hidden-the_row-Expr-1 shape-the_row-Stmt-1 hidden-the_row-Stmt-1 shape-the_row-Stmt-2 hidden-the_row-Stmt-2 shape-the_row-RoutineBlock-3 hidden-the_row-RoutineBlock-3 shape-the_row-Arm-0 hidden-the_row-Arm-0 roll-Place roll-Call roll-RoutineBlock roll-Arm hidden roll digits calls_to
+fuel_of_their_own = ap (written false) (step_leaves (main rows.own_loops 3) _ fuel_of_their_own_leaves)
+
+routine_spends_its_fuel_leaves : meant (first_step (main rows.own_loops 2)) ≡ Err (Trap 0 FuelSpent)
+unfolding shape-the_row-Expr-0 hidden-the_row-Expr-0 shape-the_row-Expr-1 hidden-the_row-Expr-1 shape-the_row-Stmt-1 hidden-the_row-Stmt-1 shape-the_row-Stmt-2 hidden-the_row-Stmt-2 shape-the_row-RoutineBlock-3 hidden-the_row-RoutineBlock-3 shape-the_row-Arm-0 hidden-the_row-Arm-0 roll-Place roll-Call roll-RoutineBlock roll-Arm hidden roll digits calls_to after least_faulty is_faulty shared_word least_below fault_of merged_memory
+routine_spends_its_fuel_leaves = simp (get_insert, get_none)
+
+pub routine_spends_its_fuel : rows.RoutineSpendsItsFuel
+unfolding shape-the_row-Expr-0 hidden-the_row-Expr-0 shape-the_row-Expr-1 hidden-the_row-Expr-1 shape-the_row-Stmt-1 hidden-the_row-Stmt-1 shape-the_row-Stmt-2 hidden-the_row-Stmt-2 shape-the_row-RoutineBlock-3 hidden-the_row-RoutineBlock-3 shape-the_row-Arm-0 hidden-the_row-Arm-0 roll-Place roll-Call roll-RoutineBlock roll-Arm hidden roll digits calls_to
+routine_spends_its_fuel = ap (written false) (step_leaves (main rows.own_loops 2) _ routine_spends_its_fuel_leaves)
+
+pub calls_nest : rows.CallsNest
+unfolding shape-the_row-Expr-0 hidden-the_row-Expr-0 shape-the_row-Expr-1 hidden-the_row-Expr-1 shape-the_row-Stmt-1 hidden-the_row-Stmt-1 shape-the_row-Stmt-2 hidden-the_row-Stmt-2 shape-the_row-RoutineBlock-3 hidden-the_row-RoutineBlock-3 shape-the_row-Arm-0 hidden-the_row-Arm-0 roll-Place roll-Call roll-RoutineBlock roll-Arm hidden roll digits calls_to
+calls_nest = refl
+
+pub calls_nest_too_deep : rows.CallsNestTooDeep
+unfolding shape-the_row-Expr-0 hidden-the_row-Expr-0 shape-the_row-Expr-1 hidden-the_row-Expr-1 shape-the_row-Stmt-1 hidden-the_row-Stmt-1 shape-the_row-Stmt-2 hidden-the_row-Stmt-2 shape-the_row-RoutineBlock-3 hidden-the_row-RoutineBlock-3 shape-the_row-Arm-0 hidden-the_row-Arm-0 roll-Place roll-Call roll-RoutineBlock roll-Arm hidden roll digits calls_to
+calls_nest_too_deep = refl
+
+pub value_before_range : rows.ValueBeforeRange
+unfolding shape-the_row-Expr-0 hidden-the_row-Expr-0 shape-the_row-Expr-1 hidden-the_row-Expr-1 shape-the_row-Stmt-1 hidden-the_row-Stmt-1 shape-the_row-Stmt-2 hidden-the_row-Stmt-2 shape-the_row-RoutineBlock-3 hidden-the_row-RoutineBlock-3 shape-the_row-Arm-0 hidden-the_row-Arm-0 roll-Place roll-Call roll-RoutineBlock roll-Arm hidden roll digits calls_to
+value_before_range = refl
+
+pub value_before_reading : rows.ValueBeforeReading
+unfolding shape-the_row-Expr-0 hidden-the_row-Expr-0 shape-the_row-Expr-1 hidden-the_row-Expr-1 shape-the_row-Stmt-1 hidden-the_row-Stmt-1 shape-the_row-Stmt-2 hidden-the_row-Stmt-2 shape-the_row-RoutineBlock-3 hidden-the_row-RoutineBlock-3 shape-the_row-Arm-0 hidden-the_row-Arm-0 roll-Place roll-Call roll-RoutineBlock roll-Arm hidden roll digits calls_to
+value_before_reading = refl
+
+pub leaving_loops : rows.LeavingLoops
+unfolding shape-the_row-Expr-0 hidden-the_row-Expr-0 shape-the_row-Expr-1 hidden-the_row-Expr-1 shape-the_row-Stmt-1 hidden-the_row-Stmt-1 shape-the_row-Stmt-2 hidden-the_row-Stmt-2 shape-the_row-RoutineBlock-3 hidden-the_row-RoutineBlock-3 shape-the_row-Arm-0 hidden-the_row-Arm-0 roll-Place roll-Call roll-RoutineBlock roll-Arm hidden roll digits calls_to
+leaving_loops = refl

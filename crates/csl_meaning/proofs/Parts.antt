@@ -1,5 +1,5 @@
 -- What holds of each part of a run holds of every expression, statement and call.
-use Rattle.std.proofs.Common.{◌≡◌, ℕ, zero, suc, ℤ, Bool, true, false, if◌then◌else◌, List, [], ◌∷◌, Option, Some, None, Result, Ok, Err, unwrap_or, length, map, sum, ◌≤◌, nat_le, refl}
+use Rattle.std.proofs.Common.{◌≡◌, ℕ, zero, suc, ℤ, Bool, true, false, if◌then◌else◌, List, [], ◌∷◌, Option, Some, None, Result, Ok, Err, sum, ◌≤◌, nat_le, refl}
 use Rattle.std.proofs.lemmas.Bool.{leb-true}
 use Rattle.cal_base.specs.declared.ends.Cause.{Cause}
 use Rattle.cal_base.specs.declared.ends.Cause.TheVariants.{Assertion, OutOfRange, TooDeep, FuelSpent, BadWidth}
@@ -20,15 +20,14 @@ use Rattle.csl_tree.specs.declared.program.Arm.{Arm'}
 use Rattle.csl_tree.specs.declared.program.Form.{Form, Declare, Set, AddTo, If', While', For', Break, Continue, Return, CallOf, Assert, Block', Print, Par', Row_of-Arm, end_of-Arm, more_of-Arm, Row_of-Stmt, end_of-Stmt, more_of-Stmt, Held-Form-If-1}
 use Rattle.csl_tree.specs.declared.program.Form as form
 use Rattle.csl_meaning.specs.declared.state.Area.{Area}
-use Rattle.csl_meaning.specs.declared.state.Ending.{Ending}
 use Rattle.csl_meaning.specs.declared.state.Ending.TheVariants as ending
 use Rattle.csl_meaning.specs.declared.state.World.{World}
 use Rattle.csl_meaning.specs.Layout.{Text, area_of}
-use Rattle.csl_meaning.specs.Locals.{Locals, declare, local_value, set_local, bound}
-use Rattle.csl_meaning.specs.Operators.{number_in, truth_in, as_int, unary, binary, decided}
+use Rattle.csl_meaning.specs.Locals.{Locals, local_value}
+use Rattle.csl_meaning.specs.Operators.{number_in, truth_in, unary, binary, decided}
 use Rattle.csl_meaning.specs.Runs.{Outcome, Run, ◌>>=◌, ◌>>◌, pure, stop, try, take_unit, word_at, put_word, raise_word}
 use Rattle.csl_meaning.specs.Value.{Calls, value, read, result, boxed, values, value_of, item_at, in_range, declared, read_as_int, read_name, unless}
-use Rattle.csl_meaning.specs.Effect.{Went, MainOnly, Printing, Stepping, go_on, after_body, leave, scoped, locals_after, turn, turns, loop, assert, set_name, add_to_name, set, add_to, returned, blocks_in, effect, in_order, choose, otherwise, statements, step_of, nowhere, given_back, function_named, run_function, calls_to, most_levels}
+use Rattle.csl_meaning.specs.Effect.{Went, MainOnly, Printing, Stepping, go_on, after_body, scoped, locals_after, turn, turns, loop, assert, set_name, add_to_name, set, add_to, returned, blocks_in, effect, in_order, choose, otherwise, statements, step_of, nowhere, function_named, run_function, calls_to, most_levels}
 use Rattle.csl_meaning.specs.Meaning.{show, line_of, pieces, widths_of, naturals, good_widths, most_routines, open_step, in_main}
 
 -- what is to hold of each run, from every world

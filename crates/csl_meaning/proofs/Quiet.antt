@@ -1,14 +1,12 @@
 -- A routine shows no line and opens no step, and it leaves its step's opening memory as it is.
-use Rattle.std.proofs.Common.{◌≡◌, ℕ, zero, suc, ℤ, List, [], ◌∷◌, Option, Result, Ok, Err, refl, pos}
+use Rattle.std.proofs.Common.{ℕ, zero, suc, ℤ, [], ◌∷◌, Result, Ok, Err, refl, pos}
 use Rattle.cal_base.specs.declared.ends.Cause.{Cause}
 use Rattle.cal_base.specs.declared.value.Store.{Store}
 use Rattle.cal_base.specs.declared.value.Store.TheVariants as store
 use Rattle.cal_base.specs.declared.value.Val.TheVariants.{Int}
-use Rattle.cal_base.specs.Arithmetic.{checked}
 use Rattle.cal_base.specs.Memory.{Memory}
-use Rattle.cal_base.specs.Stores.{write_word, add_word, with_sum, base_of}
-use Rattle.csl_tree.specs.declared.program.Program.{Program}
-use Rattle.csl_tree.specs.declared.program.RoutineBlock.{RoutineBlock, RoutineBlock'}
+use Rattle.cal_base.specs.Stores.{write_word, with_sum}
+use Rattle.csl_tree.specs.declared.program.RoutineBlock.{RoutineBlock'}
 use Rattle.csl_meaning.specs.declared.state.World.{World}
 use Rattle.csl_meaning.specs.Locals.{bound}
 use Rattle.csl_meaning.specs.Runs.{Outcome, Gives, Stops, ShowsLine, OpensStep, Run, and_then, spend, with_store}

@@ -1,5 +1,5 @@
 -- The meaning of a main, by what its steps leave.
-use Rattle.std.proofs.Common.{◌≡◌, ℕ, List, [], ◌∷◌, Result, Ok, Err, refl, ap, ◌∙◌}
+use Rattle.std.proofs.Common.{◌≡◌, List, [], ◌∷◌, Result, Ok, refl, ap, ◌∙◌}
 use Rattle.cal_base.specs.declared.ends.StepFault.{StepFault}
 use Rattle.cal_base.specs.Memory.{Memory}
 use Rattle.cal_base.specs.Claims.{StepJob, meant}

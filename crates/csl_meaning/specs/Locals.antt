@@ -1,5 +1,5 @@
 -- The parameters and locals of a body, in the order of declaration. No two that are visible have one name.
-use Rattle.std.specs.Prelude.{ℕ, if◌then◌else◌, List, [], ◌∷◌, ◌++◌, Option, Some, None}
+use Rattle.std.specs.Prelude.{if◌then◌else◌, List, [], ◌∷◌, ◌++◌, Option, Some, None}
 use Rattle.std.specs.Str.{bytes_eq}
 use Rattle.cal_base.specs.declared.value.Val.{Val}
 use Rattle.csl_meaning.specs.declared.state.Local.{Local}

@@ -1,13 +1,11 @@
 -- Worked examples: small programs as trees, and what they write.
-use Rattle.std.specs.Prelude.{◌≡◌, ℕ, Bool, ℤ, pos, negsuc, List, [], ◌∷◌, ◌++◌, Option, Some, None, true, false, map, codes}
-use Rattle.cal_base.specs.declared.ends.RunEnd.{RunEnd}
+use Rattle.std.specs.Prelude.{◌≡◌, ℕ, Bool, ℤ, pos, List, [], ◌∷◌, ◌++◌, Option, Some, None, true, false, map, codes}
 use Rattle.cal_base.specs.declared.ends.RunEnd.TheVariants.{Done}
 use Rattle.cal_base.specs.declared.step.WordKind.TheVariants.{Ordinary, Tally}
 use Rattle.cal_base.specs.Main.{Meaning}
 use Rattle.cal_base.specs.Text.{text_of, fault_line, line}
 use Rattle.csl_tree.specs.declared.name.Name.{Name}
 use Rattle.csl_tree.specs.declared.program.Program.{Program}
-use Rattle.csl_tree.specs.declared.program.Function.{Function}
 use Rattle.csl_tree.specs.declared.program.Gives.TheVariants as gives
 use Rattle.csl_tree.specs.declared.program.Ty.TheVariants as ty
 use Rattle.csl_tree.specs.declared.program.Expr.{Expr}
@@ -24,7 +22,7 @@ use Rattle.csl_tree.specs.declared.program.Stmt.{Stmt}
 use Rattle.csl_tree.specs.declared.program.Form.{Form}
 use Rattle.csl_tree.specs.declared.program.Form.TheVariants as form
 use Rattle.csl_tree.specs.declared.program.RoutineBlock.{RoutineBlock, roll-RoutineBlock}
-use Rattle.csl_tree.specs.declared.program.Arm.{Arm, roll-Arm}
+use Rattle.csl_tree.specs.declared.program.Arm.{roll-Arm}
 use Rattle.csl_tree.specs.declared.program.Shared.{Shared}
 use Rattle.csl_meaning.specs.Meaning.{meaning}
 
@@ -337,6 +335,103 @@ guarded = main_alone (scalar (codes "z") ∷ [])
 
 abbrev pub RightIsSkipped : Type 0
 RightIsSkipped = Writes guarded 1000000 (line (codes "false")) []
+
+-- shared { } main { int i = 0; while (i < 1) { i += 1; } parbegin routine[-1](int w, int id) { } parend; }
+abbrev pub bad_width_without_fuel : Program
+bad_width_without_fuel = main_alone []
+    (declare (codes "i") (number 0)
+    ∷ s (form.While (two (var (codes "i")) Lt (number 1)) (add_to (at_name (codes "i")) (number 1) ∷ []))
+    ∷ parallel (routine (minus (number 1)) [] ∷ [])
+    ∷ [])
+
+-- the widths are tested before the unit is taken
+abbrev pub BadWidthComesFirst : Type 0
+BadWidthComesFirst = Writes bad_width_without_fuel 1 [] (line (codes "fault: after step 0: bad width"))
+
+-- shared { int a[2]; } main { parbegin routine[2](int w, int id) { for (int k = 0; k < 3; k += 1) { a[id] += k; } } parend; print(a[0], a[1]); }
+abbrev pub own_loops : Program
+own_loops = main_alone (array (codes "a") 2 [] ∷ [])
+    (parallel (routine (number 2) (count_to (codes "k") 3 (add_to (at_item (codes "a") id) (var (codes "k")) ∷ []) ∷ []) ∷ [])
+    ∷ print_pair
+    ∷ [])
+
+-- each routine has the whole fuel, and reads what it wrote itself
+abbrev pub FuelOfTheirOwn : Type 0
+FuelOfTheirOwn = Writes own_loops 3 (line (codes "3 3")) []
+
+abbrev pub RoutineSpendsItsFuel : Type 0
+RoutineSpendsItsFuel = Writes own_loops 2 [] (line (codes "fault: step 1, routine 0: fuel spent"))
+
+-- shared { } int f(int n) { if (n == 0) { return 7; } return f(n - 1); } main { print(f(N)); }
+abbrev pub descending : ℕ → Program
+descending n = record {
+  shared = [];
+  functions = record {
+    name = named (codes "f");
+    gives = gives.Int;
+    params = record { name = named (codes "n"); ty = ty.Int } ∷ [];
+    body =
+        when (two (var (codes "n")) Eq (number 0)) (s (form.Return (Some (number 7))) ∷ []) None
+        ∷ s (form.Return (Some (call (codes "f") (two (var (codes "n")) Sub (number 1) ∷ []))))
+        ∷ [];
+  } ∷ [];
+  main = print (item.Value (call (codes "f") (number n ∷ [])) ∷ []) ∷ [];
+}
+
+-- 64 calls nest, and no more
+abbrev pub CallsNest : Type 0
+CallsNest = Writes (descending 63) 1000000 (line (codes "7")) []
+
+abbrev pub CallsNestTooDeep : Type 0
+CallsNestTooDeep = Writes (descending 64) 1000000 [] (line (codes "fault: after step 0: too deep"))
+
+-- shared { int a[2]; int z; } main { a[2] = 1 / z; }
+abbrev pub value_first : Program
+value_first = main_alone (array (codes "a") 2 [] ∷ scalar (codes "z") ∷ []) (set (at_item (codes "a") (number 2)) (two (number 1) Div (var (codes "z"))) ∷ [])
+
+-- the value is evaluated before the index is tested
+abbrev pub ValueBeforeRange : Type 0
+ValueBeforeRange = Writes value_first 1000000 [] (line (codes "fault: after step 0: division by zero"))
+
+-- shared { int x; } int f(int n) { x = 5; return n; } main { x += f(1); print(x); }
+abbrev pub adds_after : Program
+adds_after = record {
+  shared = scalar (codes "x") ∷ [];
+  functions = record {
+    name = named (codes "f");
+    gives = gives.Int;
+    params = record { name = named (codes "n"); ty = ty.Int } ∷ [];
+    body = set (at_name (codes "x")) (number 5) ∷ s (form.Return (Some (var (codes "n")))) ∷ [];
+  } ∷ [];
+  main =
+      add_to (at_name (codes "x")) (call (codes "f") (number 1 ∷ []))
+      ∷ print (item.Value (var (codes "x")) ∷ [])
+      ∷ [];
+}
+
+-- the value is evaluated before the word is read
+abbrev pub ValueBeforeReading : Type 0
+ValueBeforeReading = Writes adds_after 1000000 (line (codes "6")) []
+
+-- shared { } main {
+--   int s = 0; for (int i = 0; i < 9; i += 1) { if (i == 1) { continue; } if (i == 3) { break; } s += i; } print(s); return; print(s);
+-- }
+abbrev pub leaving : Program
+leaving = main_alone []
+    (declare (codes "s") (number 0)
+    ∷ count_to (codes "i") 9
+    (when (two (var (codes "i")) Eq (number 1)) (s form.Continue ∷ []) None
+    ∷ when (two (var (codes "i")) Eq (number 3)) (s form.Break ∷ []) None
+    ∷ add_to (at_name (codes "s")) (var (codes "i"))
+    ∷ [])
+    ∷ print (item.Value (var (codes "s")) ∷ [])
+    ∷ s (form.Return None)
+    ∷ print (item.Value (var (codes "s")) ∷ [])
+    ∷ [])
+
+-- `continue` goes to the step statement and takes a unit, `break` takes none, and `return` ends main
+abbrev pub LeavingLoops : Type 0
+LeavingLoops = Writes leaving 3 (line (codes "2")) []
 
 -- shared { int a[64]; int b[64]; int c[64]; }
 -- int cell(int r, int q) { int v = 0; for (int k = 0; k < 8; k += 1) { v += a[r * 8 + k] * b[k * 8 + q]; } return v; }

@@ -32,4 +32,12 @@ pub fn worked_rows()
     ensures no_fuel_for_four_turns { rows.NoFuelForFourTurns }
     ensures calls_too_deep { rows.CallsTooDeep }
     ensures right_is_skipped { rows.RightIsSkipped }
+    ensures bad_width_comes_first { rows.BadWidthComesFirst }
+    ensures fuel_of_their_own { rows.FuelOfTheirOwn }
+    ensures routine_spends_its_fuel { rows.RoutineSpendsItsFuel }
+    ensures calls_nest { rows.CallsNest }
+    ensures calls_nest_too_deep { rows.CallsNestTooDeep }
+    ensures value_before_range { rows.ValueBeforeRange }
+    ensures value_before_reading { rows.ValueBeforeReading }
+    ensures leaving_loops { rows.LeavingLoops }
 {}

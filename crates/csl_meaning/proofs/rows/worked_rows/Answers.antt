@@ -78,3 +78,27 @@ returns-clause-calls_too_deep c = examples.calls_too_deep
 
 pub returns-clause-right_is_skipped : goal.returns-clause-right_is_skipped
 returns-clause-right_is_skipped c = examples.right_is_skipped
+
+pub returns-clause-bad_width_comes_first : goal.returns-clause-bad_width_comes_first
+returns-clause-bad_width_comes_first c = examples.bad_width_comes_first
+
+pub returns-clause-fuel_of_their_own : goal.returns-clause-fuel_of_their_own
+returns-clause-fuel_of_their_own c = examples.fuel_of_their_own
+
+pub returns-clause-routine_spends_its_fuel : goal.returns-clause-routine_spends_its_fuel
+returns-clause-routine_spends_its_fuel c = examples.routine_spends_its_fuel
+
+pub returns-clause-calls_nest : goal.returns-clause-calls_nest
+returns-clause-calls_nest c = examples.calls_nest
+
+pub returns-clause-calls_nest_too_deep : goal.returns-clause-calls_nest_too_deep
+returns-clause-calls_nest_too_deep c = examples.calls_nest_too_deep
+
+pub returns-clause-value_before_range : goal.returns-clause-value_before_range
+returns-clause-value_before_range c = examples.value_before_range
+
+pub returns-clause-value_before_reading : goal.returns-clause-value_before_reading
+returns-clause-value_before_reading c = examples.value_before_reading
+
+pub returns-clause-leaving_loops : goal.returns-clause-leaving_loops
+returns-clause-leaving_loops c = examples.leaving_loops
