@@ -45,6 +45,7 @@ impl<T: Drop> From<AllocFailed<T>> for LexError {
 
 mod item;
 mod scan;
+mod spelling;
 
 /// The tokens of a text.
 pub fn lex(alloc: Global, text: &[u8]) -> Result<Vec<Token>, LexError>
