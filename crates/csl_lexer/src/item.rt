@@ -17,14 +17,21 @@ pub fn item(alloc: Global, at: u32, bytes: &[u8]) -> Result<(Option<TokenKind>, 
     requires { 0 < length bytes.now }
     ensures { Steps at bytes.now result }
 {
-    match bytes {
-        [b'"', inner @ ..] => text(alloc, at, inner),
-        [b'/', b'/', body @ ..] => Ok((None, 2 + run_length(ByteClass::InLine, body))),
-        [b'/', b'*', body @ ..] => block_comment(at, body),
-        [first, ..] if is_blank(*first) => Ok((None, 1)),
-        [first, ..] if is_letter(*first) => word(alloc, at, bytes),
-        [first, ..] if first.is_ascii_digit() => number(at, bytes),
-        _ => sign(at, bytes),
+    let first = bytes[0];
+    if is_blank(first) {
+        Ok((None, 1))
+    } else if is_letter(first) {
+        word(alloc, at, bytes)
+    } else if first.is_ascii_digit() {
+        number(at, bytes)
+    } else if let Some(inner) = bytes.strip_prefix(b"\"") {
+        text(alloc, at, inner)
+    } else if let Some(body) = bytes.strip_prefix(b"//") {
+        Ok((None, 2 + run_length(ByteClass::InLine, body)))
+    } else if let Some(body) = bytes.strip_prefix(b"/*") {
+        block_comment(at, body)
+    } else {
+        sign(at, bytes)
     }
 }
 
@@ -57,7 +64,7 @@ fn word(alloc: Global, at: u32, bytes: &[u8]) -> Result<(Option<TokenKind>, usiz
     requires letter { IsLetter (slice_index bytes.now 0) }
     ensures { Steps at bytes.now result }
 {
-    let length = 1 + run_length(ByteClass::InName, &bytes[1..]);
+    let length = run_length(ByteClass::InName, bytes);
     if length > 64 {
         return Err(LexError::LongName(at));
     }

@@ -58,9 +58,9 @@ pub fn closing(bytes: &[u8]) -> Option<usize>
     ensures found { IfSome result (λ n. FirstCloses bytes.now n) }
     ensures none { result ≡ None → NeverCloses bytes.now }
 {
-    for (i, pair) in bytes.windows(2).enumerate() {
-        if pair == b"*/".as_slice() {
-            return Some(i);
+    for i in 1..bytes.len() {
+        if bytes[i - 1] == b'*' && bytes[i] == b'/' {
+            return Some(i - 1);
         }
     }
     None
