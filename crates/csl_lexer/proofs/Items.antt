@@ -1,11 +1,11 @@
 -- The longest item at the front of some bytes, for each kind of item.
-use Rattle.std.proofs.Common.{◌≡◌, ◌≢◌, ◌≤◌, ◌<◌, ◌+◌, ◌⊎◌, inl, inr, ℕ, suc, zero, List, [], ◌∷◌, ◌++◌, length, refl, ap, sym, ◌∙◌, subst, arith, append_assoc, length-append, drop}
+use Rattle.std.proofs.Common.{◌≡◌, ◌≢◌, ◌≤◌, ◌<◌, ◌+◌, inl, inr, ℕ, suc, List, [], ◌∷◌, ◌++◌, length, refl, ap, sym, ◌∙◌, subst, arith, append_assoc, length-append, drop}
 use Rattle.std.specs.List.{AllByRecursion}
 use Rattle.csl_tree.specs.declared.token.Mark.{Mark}
 use Rattle.csl_tree.specs.declared.token.Mark.TheVariants as mark
 use Rattle.csl_lexer.specs.declared.scan.ByteClass.{ByteClass}
 use Rattle.csl_lexer.specs.declared.scan.ByteClass.TheVariants as class
-use Rattle.csl_lexer.specs.Tokens.{IsBlank, IsDigit, IsLetter, IsNameByte, IsInLine, IsInText, NeverCloses, value_of, spelled, Item, Gap, Run, Digits, Quoted, Sign, IsItem, blank, line, block, run, digits, quoted, sign, OpensComment, OpensText, Longest}
+use Rattle.csl_lexer.specs.Tokens.{IsBlank, IsDigit, IsLetter, IsNameByte, IsInLine, IsInText, NeverCloses, value_of, spelled, Item, Gap, Run, Digits, Quoted, Sign, IsItem, blank, line, block, run, digits, quoted, sign, OpensComment, Longest}
 use Rattle.csl_lexer.specs.Steps.{IsIn, BeginsOutside, LongestMark, IsOther}
 
 -- bytes of a class go no further than a run of them that ends

@@ -1,10 +1,10 @@
 -- The end is the last token alone, and the places of tokens ascend.
-use Rattle.std.proofs.Common.{◌≡◌, ◌≢◌, ◌≤◌, ◌<◌, ◌+◌, ℕ, List, [], ◌∷◌, ◌++◌, Result, Ok, Err, length, refl, ap, sym, subst, arith, length-append}
+use Rattle.std.proofs.Common.{◌≡◌, ◌≢◌, ◌≤◌, ◌+◌, ℕ, List, [], ◌∷◌, Result, Ok, Err, length, refl, ap, subst, arith, length-append}
 use Rattle.csl_tree.specs.declared.token.Token.{Token}
 use Rattle.csl_tree.specs.declared.token.TokenKind.{TokenKind}
 use Rattle.csl_tree.specs.declared.token.TokenKind.TheVariants as kind
 use Rattle.csl_lexer.specs.declared.LexError.{LexError}
-use Rattle.csl_lexer.specs.Tokens.{Item, Longest, IsWord, keyword, name, IsToken, run_token, number_token, text_token, mark_token, Reads, at_end, gap, token, fault_here}
+use Rattle.csl_lexer.specs.Tokens.{Item, Longest, keyword, name, IsToken, run_token, number_token, text_token, mark_token, Reads, at_end, gap, token, fault_here}
 use Rattle.csl_lexer.specs.Laws.{EndsAt, AscendsFrom, ListsEnd, PlacesAscend}
 use Rattle.csl_lexer.proofs.Items.{item_some}
 
@@ -36,7 +36,7 @@ ends {at = at} {bytes = bytes} (token {k = k} {outcome = Ok more} l is d) tokens
     let first : Token = record { at = at; kind = k } in
     let same : first ∷ more ≡ tokens = cc in
     subst (λ (x : List Token). EndsAt (at + length bytes) x) same
-      (ends_more (at + length bytes) first more (no_end is) (subst (λ (x : ℕ). EndsAt x more) (behind at l) (ends d more refl)))
+    (ends_more (at + length bytes) first more (no_end is) (subst (λ (x : ℕ). EndsAt x more) (behind at l) (ends d more refl)))
 ends (token {outcome = Err x} l is d) tokens e = absurd (cc)
 ends (fault_here f) tokens e = absurd (cc)
 
@@ -50,7 +50,7 @@ ascends {at = at} (token {piece = piece} {k = k} {outcome = Ok more} l is d) tok
     let first : Token = record { at = at; kind = k } in
     let same : first ∷ more ≡ tokens = cc in
     subst (λ (x : List Token). AscendsFrom at x) same
-      (omega arith, ascends_lower (at + 1) (at + length piece) more (omega (arith, item_some l.is_item)) (ascends d more refl))
+    (omega arith, ascends_lower (at + 1) (at + length piece) more (omega (arith, item_some l.is_item)) (ascends d more refl))
 ascends (token {outcome = Err x} l is d) tokens e = absurd (cc)
 ascends (fault_here f) tokens e = absurd (cc)
 

@@ -1,5 +1,5 @@
 -- One step of the reader, and the rest of the text behind it.
-use Rattle.std.proofs.Common.{◌≡◌, ◌≢◌, ◌≤◌, ◌<◌, ◌+◌, ◌⊎◌, inl, inr, ℕ, suc, zero, List, [], ◌∷◌, ◌++◌, Option, Some, None, Result, Ok, Err, length, take, drop, length-drop, take-append-drop, length-take, length-append, drop-cons, get_or-drop, true, false, ◌-◌, get_or, refl, ap, sym, ◌∙◌, subst, arith, append_assoc, append-nil, add-one, pos, ◌^◌}
+use Rattle.std.proofs.Common.{◌≡◌, ◌≢◌, ◌≤◌, ◌<◌, ◌+◌, ◌⊎◌, inl, inr, ℕ, suc, zero, List, [], ◌∷◌, ◌++◌, Option, Some, None, Result, Ok, Err, length, take, drop, length-drop, take-append-drop, length-take, length-append, drop-cons, get_or-drop, true, false, ◌-◌, get_or, refl, ap, sym, ◌∙◌, subst, arith, append_assoc, pos, ◌^◌}
 use Rattle.std.specs.List.{AllByRecursion}
 use Rattle.std.proofs.lemmas.List.{drop-drop, drop_all, take_all}
 use Rattle.std.proofs.lemmas.Bool.Decides.{leb_tells}
@@ -11,10 +11,10 @@ use Rattle.csl_tree.specs.declared.token.TokenKind.TheVariants as kind
 use Rattle.csl_lexer.specs.declared.LexError.{LexError}
 use Rattle.csl_lexer.specs.declared.LexError.TheVariants as fault
 use Rattle.csl_lexer.specs.declared.scan.ByteClass.TheVariants as class
-use Rattle.csl_lexer.specs.Tokens.{Reads, gap, token, at_end, fault_here, before, Item, Run, Digits, Sign, IsItem, blank, line, block, run, digits, quoted, sign, Longest, IsFault, bad_byte, long_name, long_number, open_comment, open_text, IsInLine, IsInText, IsBlank, IsDigit, IsLetter, IsNameByte, IsWord, NeverCloses, OpensText, value_of, spelled, run_token, number_token, text_token, mark_token}
+use Rattle.csl_lexer.specs.Tokens.{Reads, gap, token, at_end, fault_here, before, Item, Run, Digits, Sign, IsItem, blank, line, block, run, digits, quoted, sign, Longest, IsFault, bad_byte, long_name, long_number, open_comment, open_text, IsInLine, IsInText, IsBlank, IsDigit, IsLetter, IsNameByte, IsWord, NeverCloses, value_of, spelled, run_token, number_token, text_token, mark_token}
 use Rattle.csl_tree.specs.declared.token.Mark.{Mark}
-use Rattle.csl_lexer.specs.Steps.{Takes, takes_gap, takes_token, IsIn, BeginsOutside, FirstCloses, LongestMark, NoMark, IsOther}
-use Rattle.csl_lexer.proofs.Items.{quoted_longest, blank_longest, run_longest, digits_longest, line_longest, block_longest, sign_longest, heads, item_some}
+use Rattle.csl_lexer.specs.Steps.{Takes, takes_gap, takes_token, BeginsOutside, FirstCloses, LongestMark, NoMark, IsOther}
+use Rattle.csl_lexer.proofs.Items.{quoted_longest, blank_longest, run_longest, digits_longest, line_longest, block_longest, sign_longest, item_some}
 
 -- the token that a step adds, if it adds one
 abbrev pub added : ℕ → Option TokenKind → List Token
@@ -182,8 +182,8 @@ pub begins_nothing : (at : ℕ) (bytes : List ℕ) → 0 < length bytes → NoMa
 begins_nothing at [] some none other = absurd (omega arith)
 begins_nothing at (b ∷ bytes) some none other = bad_byte
     (λ piece behind item e d.
-      let as_mark : (m : Mark) × (item ≡ Sign m) × (piece ≡ spelled m) = other.sign_only piece behind item e d in
-      none as_mark.0 behind (e ∙ ap (λ x. x ++ behind) as_mark.2))
+    let as_mark : (m : Mark) × (item ≡ Sign m) × (piece ≡ spelled m) = other.sign_only piece behind item e d in
+    none as_mark.0 behind (e ∙ ap (λ x. x ++ behind) as_mark.2))
     other.no_text
 
 -- at the front of the bytes stands a mark or nothing

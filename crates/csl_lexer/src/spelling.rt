@@ -45,7 +45,9 @@ pub fn mark(bytes: &[u8]) -> Option<(Mark, usize)>
     ensures found { IfSome result (λ x. LongestMark bytes.now x.0 x.1) }
     ensures none { result ≡ None → NoMark bytes.now }
 {
-    if let [first, second, ..] = bytes && let Some(mark) = double_mark(*first, *second) {
+    if let [first, second, ..] = bytes
+        && let Some(mark) = double_mark(*first, *second)
+    {
         return Some((mark, 2));
     }
     let [first, ..] = bytes else {

@@ -1,4 +1,4 @@
-use Rattle.std.proofs.Common.{refl, rules, w64, SFits, ℤ, pos, take, subst, arith, ◌≡◌}
+use Rattle.std.proofs.Common.{refl, rules, w64, SFits, ℤ, pos, take, subst, arith}
 use Rattle.csl_lexer.specs.Tokens.{value_of}
 use Rattle.std.proofs.lemmas.Int.{to_z-of_z}
 use Rattle.csl_lexer.proofs.Steps.{takes_number, large_number}

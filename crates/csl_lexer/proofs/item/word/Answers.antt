@@ -1,4 +1,4 @@
-use Rattle.std.proofs.Common.{◌≤◌, arith}
+use Rattle.std.proofs.Common.{arith}
 use Rattle.csl_lexer.proofs.Steps.{takes_word, long_word}
 use Rattle.csl_lexer.proofs.item.word.Goals as goal
 

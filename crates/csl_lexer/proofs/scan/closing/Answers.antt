@@ -1,4 +1,4 @@
-use Rattle.std.proofs.Common.{◌+◌, ◌<◌, ◌-◌, arith}
+use Rattle.std.proofs.Common.{◌-◌, arith}
 use Rattle.csl_lexer.proofs.Closing.{none_more, never_all, closes_first}
 use Rattle.csl_lexer.proofs.scan.closing.Goals as goal
 use Rattle.csl_lexer.proofs.scan.closing.Goals.{else-bytes-i-eq42-via-then-bytes-i-eq42+else-bytes-i-eq47, else-bytes-i-eq42-via-else-bytes-i-eq42}

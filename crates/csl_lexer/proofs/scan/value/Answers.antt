@@ -1,4 +1,4 @@
-use Rattle.std.proofs.Common.{◌≡◌, None, arith}
+use Rattle.std.proofs.Common.{arith}
 use Rattle.csl_lexer.proofs.Values.{value_past}
 use Rattle.csl_lexer.proofs.scan.value.Goals as goal
 
