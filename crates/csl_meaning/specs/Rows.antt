@@ -6,6 +6,7 @@ use Rattle.cal_base.specs.Main.{Meaning}
 use Rattle.cal_base.specs.Text.{text_of, fault_line, line}
 use Rattle.csl_tree.specs.declared.name.Name.{Name}
 use Rattle.csl_tree.specs.declared.program.Program.{Program}
+use Rattle.csl_tree.specs.declared.program.Function.{Function}
 use Rattle.csl_tree.specs.declared.program.Gives.TheVariants as gives
 use Rattle.csl_tree.specs.declared.program.Ty.TheVariants as ty
 use Rattle.csl_tree.specs.declared.program.Expr.{Expr}
@@ -108,14 +109,6 @@ id = var (codes "id")
 -- print(a[0], a[1]);
 abbrev print_pair : Stmt
 print_pair = print (item.Value (read (at_item (codes "a") (number 0))) ∷ item.Value (read (at_item (codes "a") (number 1))) ∷ [])
-
--- id / 8
-abbrev row : Expr
-row = two id Div (number 8)
-
--- id % 8
-abbrev column : Expr
-column = two id Rem (number 8)
 
 abbrev main_alone : List Shared → List Stmt → Program
 main_alone shared main = record { shared = shared; functions = []; main = main }
@@ -433,43 +426,75 @@ leaving = main_alone []
 abbrev pub LeavingLoops : Type 0
 LeavingLoops = Writes leaving 3 (line (codes "2")) []
 
--- shared { int a[64]; int b[64]; int c[64]; }
+-- k < 8
+abbrev pub below_eight : Expr
+below_eight = two (var (codes "k")) Lt (number 8)
+
+-- k += 1
+abbrev pub next_k : Stmt
+next_k = add_to (at_name (codes "k")) (number 1)
+
+-- v += a[r * 8 + k] * b[k * 8 + q];
+abbrev pub add_product : Stmt
+add_product =
+    add_to (at_name (codes "v"))
+    (two (read (at_item (codes "a") (two (two (var (codes "r")) Mul (number 8)) Add (var (codes "k"))))) Mul
+    (read (at_item (codes "b") (two (two (var (codes "k")) Mul (number 8)) Add (var (codes "q"))))))
+
+-- return v;
+abbrev pub return_v : Stmt
+return_v = s (form.Return (Some (var (codes "v"))))
+
 -- int cell(int r, int q) { int v = 0; for (int k = 0; k < 8; k += 1) { v += a[r * 8 + k] * b[k * 8 + q]; } return v; }
--- main {
---   parbegin routine[64](int w, int id) { a[id] = id / 8 + id % 8; if (id / 8 == id % 8) { b[id] = 2; } } parend;
---   parbegin routine[64](int w, int id) { c[id] = cell(id / 8, id % 8); } parend;
+abbrev cell : Function
+cell = record {
+  name = named (codes "cell");
+  gives = gives.Int;
+  params = record { name = named (codes "r"); ty = ty.Int } ∷ record { name = named (codes "q"); ty = ty.Int } ∷ [];
+  body =
+      declare (codes "v") (number 0)
+      ∷ s (form.For (declare (codes "k") (number 0)) below_eight next_k (add_product ∷ []))
+      ∷ return_v
+      ∷ [];
+}
+
+-- id / 8
+abbrev row : Expr
+row = two id Div (number 8)
+
+-- id % 8
+abbrev column : Expr
+column = two id Rem (number 8)
+
+-- routine[64](int w, int id) { a[id] = id / 8 + id % 8; if (id / 8 == id % 8) { b[id] = 2; } }
+abbrev filling : RoutineBlock
+filling = routine (number 64)
+    (set (at_item (codes "a") id) (two row Add column)
+    ∷ when (two row Eq column) (set (at_item (codes "b") id) (number 2) ∷ []) None
+    ∷ [])
+
+-- routine[64](int w, int id) { c[id] = cell(id / 8, id % 8); }
+abbrev pub multiplying : RoutineBlock
+multiplying = routine (number 64) (set (at_item (codes "c") id) (call (codes "cell") (row ∷ column ∷ [])) ∷ [])
+
+-- shared { int a[64]; int b[64]; int c[64]; } CELL main {
+--   parbegin FILLING parend; parbegin MULTIPLYING parend;
 --   int s = 0; for (int i = 0; i < 64; i += 1) { s += c[i]; } print("sum", s, "last", c[63]);
 -- }
--- c[id] = cell(id / 8, id % 8);
-abbrev pub multiply : Stmt
-multiply = set (at_item (codes "c") id) (call (codes "cell") (row ∷ column ∷ []))
-
 abbrev pub products : Program
 products = record {
   shared = array (codes "a") 64 [] ∷ array (codes "b") 64 [] ∷ array (codes "c") 64 [] ∷ [];
-  functions = record {
-    name = named (codes "cell");
-    gives = gives.Int;
-    params = record { name = named (codes "r"); ty = ty.Int } ∷ record { name = named (codes "q"); ty = ty.Int } ∷ [];
-    body =
-        declare (codes "v") (number 0)
-        ∷ count_to (codes "k") 8
-        (add_to (at_name (codes "v")) (two (read (at_item (codes "a") (two (two (var (codes "r")) Mul (number 8)) Add (var (codes "k"))))) Mul (read (at_item (codes "b") (two (two (var (codes "k")) Mul (number 8)) Add (var (codes "q")))))) ∷ [])
-        ∷ s (form.Return (Some (var (codes "v"))))
-        ∷ [];
-  } ∷ [];
+  functions = cell ∷ [];
   main =
-      parallel (routine (number 64)
-      (set (at_item (codes "a") id) (two row Add column)
-      ∷ when (two row Eq column) (set (at_item (codes "b") id) (number 2) ∷ []) None
-      ∷ []) ∷ [])
-      ∷ parallel (routine (number 64) (multiply ∷ []) ∷ [])
+      parallel (filling ∷ [])
+      ∷ parallel (multiplying ∷ [])
       ∷ declare (codes "s") (number 0)
       ∷ count_to (codes "i") 64 (add_to (at_name (codes "s")) (read (at_item (codes "c") (var (codes "i")))) ∷ [])
       ∷ print (item.Text (named (codes "sum")) ∷ item.Value (var (codes "s")) ∷ item.Text (named (codes "last")) ∷ item.Value (read (at_item (codes "c") (number 63))) ∷ [])
       ∷ [];
 }
 
+-- two steps and 64 turns of main take 66 units; the calls and turns of the routines take none of these
 abbrev pub FuelForProducts : Type 0
 FuelForProducts = Writes products 66 (line (codes "sum 896 last 28")) []
 
