@@ -18,7 +18,8 @@ use Rattle.csl_meaning.specs.Locals.{Locals}
 use Rattle.csl_meaning.specs.Runs.{Outcome, Gives, Stops, ShowsLine, OpensStep, Run, and_then, ◌>>◌, spend, with_store}
 use Rattle.csl_meaning.specs.Effect.{calls_to, most_levels}
 use Rattle.csl_meaning.specs.Routines.{answer, answers}
-use Rattle.csl_meaning.specs.Meaning.{most_routines, open_step, in_main, first_world, run_of, main_of}
+use Rattle.csl_meaning.specs.Meaning.{open_step, in_main, first_world, run_of, main_of}
+use Rattle.cal_base.specs.Widths.{most_routines}
 use Rattle.csl_meaning.specs.Laws.{StepsAreNumbered, StepsAreBounded}
 use Rattle.csl_meaning.proofs.Parts.{Always, OfParts, OfMainParts, ended, of_calls_to, of_statements, of_in_main}
 
