@@ -3,6 +3,7 @@ use Rattle.std.proofs.Common.{◌≡◌, refl, ℕ, zero, suc, ◌+◌, ◌*◌,
 use Rattle.std.specs.Prelude.{codes}
 use Rattle.std.proofs.lemmas.Bool.{lt-ltb}
 use Rattle.std.specs.Fmt.{digits}
+use Rattle.std.specs.List.{range_with_len}
 use Rattle.std.specs.FinMap.{empty, get-empty}
 use Rattle.std.specs.Ordering.{nat_cmp}
 use Rattle.csl_tree.specs.declared.program.Node.TheBlock.{shape-the_row-Expr-0, hidden-the_row-Expr-0, shape-the_row-Expr-1, hidden-the_row-Expr-1}
@@ -31,7 +32,7 @@ use Rattle.csl_meaning.specs.declared.state.Ending.TheVariants as ending
 use Rattle.csl_meaning.specs.Runs.{Run, Outcome, Gives, and_then, pure, take_unit, ◌>>◌}
 use Rattle.csl_meaning.specs.Value.{Calls, value_of}
 use Rattle.csl_meaning.specs.Effect.{Went, calls_to, turn, turns, scoped, leave, go_on, given_back, statements, step_of, nowhere}
-use Rattle.csl_meaning.specs.Routines.{answer, counted}
+use Rattle.csl_meaning.specs.Routines.{answer}
 use Rattle.csl_meaning.specs.Meaning.{main}
 use Rattle.csl_meaning.specs.Rows as rows
 use Rattle.csl_meaning.specs.Rows.{written}
@@ -143,8 +144,7 @@ multiplied id = (128 + id, pos (total (id / 8) (id % 8) 8)) ∷ []
 
 -- what a function gives for the numbers from one on, this many
 abbrev by_number : {A : Type 0} → (ℕ → A) → ℕ → ℕ → List A
-by_number f from zero = []
-by_number f from (suc n) = f from ∷ by_number f (from + 1) n
+by_number f from n = map f (range_with_len from n)
 
 module _ (m : Memory) (holds_a : (i : ℕ) → i < 64 → value_at m (0 + i) ≡ pos (in_a i)) (holds_b : (j : ℕ) → j < 64 → value_at m (64 + j) ≡ pos (in_b j)) where
   reading : (a : ℕ) (z : ℤ) → value_at m a ≡ z → read_word (Routine m nothing) a ≡ z
@@ -159,7 +159,7 @@ module _ (m : Memory) (holds_a : (i : ℕ) → i < 64 → value_at m (0 + i) ≡
       let within : nat_lt id 64 ≡ true = lt-ltb _ _ lt in
       simp (calling, row, within)
 
-  all_multiply : (f n from : ℕ) → from + n ≤ 64 → map (λ id. answer rows.products m (suc (eight (suc f))) rows.multiplying 64 id) (counted from n) ≡ answers_by (by_number multiplied from n)
+  all_multiply : (f n from : ℕ) → from + n ≤ 64 → map (λ id. answer rows.products m (suc (eight (suc f))) rows.multiplying 64 id) (range_with_len from n) ≡ answers_by (by_number multiplied from n)
   all_multiply f zero from le = refl
   all_multiply f (suc n) from le = λ i. multiplies f from (omega arith) i ∷ all_multiply f n (from + 1) (omega arith) i
 
