@@ -1,5 +1,5 @@
 -- Each delivery keeps what the core keeps.
-use Rattle.std.proofs.Common.{◌≡◌, ◌≢◌, ℕ, zero, suc, ◌+◌, ◌^◌, ◌<◌, ◌≤◌, Bool, true, false, cond, ◌&&◌, ltb, eqb, List, [], ◌∷◌, ◌++◌, length, set, get_or, refl, sym, ap, ◌∙◌, subst, ⊎_elim, arith, Option, Some, None}
+use Rattle.std.proofs.Common.{◌≡◌, ◌≢◌, ℕ, zero, suc, ◌+◌, ◌^◌, ◌<◌, ◌≤◌, true, false, cond, ◌&&◌, ltb, eqb, List, [], ◌∷◌, ◌++◌, length, set, get_or, refl, sym, ap, ◌∙◌, subst, ⊎_elim, arith, Some, None}
 use Rattle.std.specs.Prelude.{slice_get, is_some}
 use Rattle.std.specs.List.{sum}
 use Rattle.std.proofs.lemmas.List.{length-set, get_or-set_same, get_or-set_other, length_push}
@@ -9,9 +9,8 @@ use Rattle.cal_base.specs.declared.step.Verdict.{Verdict}
 use Rattle.cal_base.specs.declared.step.Verdict.TheVariants.{First, Again, Stale, Unasked, Full}
 use Rattle.cal_base.specs.declared.step.Entry.TheVariants.{Arrive}
 use Rattle.cal_base.specs.Memory.{kinds_of}
-use Rattle.cal_base.specs.declared.step.WordKind.{WordKind}
 use Rattle.cal_base.specs.declared.answer.Answer.{Answer}
-use Rattle.cal_base.specs.Answers.{Answers, answer_of, all_of}
+use Rattle.cal_base.specs.Answers.{answer_of, all_of}
 use Rattle.cal_base.specs.After.{least_faulty}
 use Rattle.cal_base.specs.History.{History, is_worker, is_caller, anyone, is_claim, is_first, claims_by, claims_of, arrivals_by, is_arrival, is_delivered}
 use Rattle.cal_base.specs.Claims.{StepJob, size_of, delivered, is_full, verdict_on, MayArrive}
@@ -19,7 +18,7 @@ use Rattle.step_laws.proofs.Agreement.{length-restricted_to, answer_of-restricte
 use Rattle.step_laws.proofs.Histories.{count_by-push, legal_push}
 use Rattle.step_laws.proofs.StepLaws.{one_if}
 use Rattle.step_laws.proofs.Growth.{delivered-other, delivered-first, delivered_at, delivered_apart, delivered_no_more, length_is_bounded, arrivals_are_bounded, ArrivalsAreBounded}
-use Rattle.progress_table.specs.Progress.{Progress, claims_in, is_done_in}
+use Rattle.progress_table.specs.Progress.{Progress, is_done_in}
 use Rattle.step_merge.specs.Staged.{Staged, StandsFor, size_of as laid_size}
 use Rattle.ties_commit.specs.Committed.{Agree, AreSame, Commits, LaysFirst, is_laid, verdict_in}
 use Rattle.step_core.specs.Names.{has_entry}

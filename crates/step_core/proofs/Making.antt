@@ -1,10 +1,10 @@
 -- A step begins with nothing.
-use Rattle.std.proofs.Common.{◌≡◌, ℕ, zero, suc, ◌+◌, ◌<◌, ◌≤◌, Bool, true, false, cond, List, [], ◌∷◌, length, replicate, get_or, refl, sym, ap, ◌∙◌, subst, arith, Option, Some, None}
+use Rattle.std.proofs.Common.{◌≡◌, ℕ, zero, suc, ◌+◌, ◌≤◌, Bool, false, cond, List, [], ◌∷◌, length, replicate, get_or, refl, sym, ap, ◌∙◌, subst, arith, Some, None}
 use Rattle.std.specs.List.{sum}
 use Rattle.std.proofs.lemmas.List.{length-replicate, get_or-replicate}
 use Rattle.cal_base.specs.declared.answer.Answer.{Answer}
 use Rattle.cal_base.specs.Memory.{kinds_of}
-use Rattle.cal_base.specs.Answers.{Answers, answer_of, all_of, restricted_to}
+use Rattle.cal_base.specs.Answers.{restricted_to}
 use Rattle.cal_base.specs.After.{least_faulty}
 use Rattle.cal_base.specs.History.{is_delivered}
 use Rattle.cal_base.specs.Claims.{StepJob, size_of, claim_bound, arrival_bound, delivered}

@@ -1,4 +1,4 @@
-use Rattle.std.proofs.Common.{rules, ◌≡◌, ◌≢◌, sym, ap, ◌∙◌, arith, Some, vec_capacity}
+use Rattle.std.proofs.Common.{◌≢◌, sym, ap, ◌∙◌, arith, Some, vec_capacity}
 use Rattle.cal_base.specs.declared.step.Verdict.TheVariants.{Full}
 use Rattle.step_core.proofs.Arrivals.{agree_now, few_arrivals, verdict_agrees, may_arrive, arrival_fits, committed_keeps, not_full}
 use Rattle.step_core.proofs.state.Core.arrive.Goals as goal
