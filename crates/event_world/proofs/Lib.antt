@@ -1,0 +1,5 @@
+pub mod Counting
+pub mod Caller
+pub mod Turns
+pub mod Meant
+pub mod Rows

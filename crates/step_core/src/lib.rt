@@ -1,0 +1,10 @@
+//! One step: claims, deliveries and the merge, over whatever list of calls.
+#![tactic(auto)]
+
+mod finished;
+#[cfg(test)]
+mod rows;
+mod state;
+
+pub use finished::Finished;
+pub use state::{Closed, Core};
