@@ -1,0 +1,5 @@
+pub mod Expressions
+pub mod Programs
+pub mod Levels
+pub mod Stops
+pub mod Spelling

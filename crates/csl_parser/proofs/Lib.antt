@@ -1,0 +1,4 @@
+pub mod Sequence
+pub mod Single
+pub mod Rules
+pub mod Steps
