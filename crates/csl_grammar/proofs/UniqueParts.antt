@@ -1,0 +1,232 @@
+-- The parts of statements and declarations: what stands at the front of a token list is one part and one rest.
+use Rattle.std.proofs.Common.{◌≡◌, ◌⊎◌, ℕ, ℤ, Bool, true, false, List, [], ◌∷◌, Some, None, Option, refl, ap, sym, ◌∙◌, subst, arith, inl, inr}
+use Rattle.std.specs.Prelude.{neg_ℤ}
+use Rattle.csl_tree.specs.declared.name.Name.{Name}
+use Rattle.csl_tree.specs.declared.token.Token.{Token}
+use Rattle.csl_tree.specs.declared.token.TokenKind.{TokenKind}
+use Rattle.csl_tree.specs.declared.token.TokenKind.TheVariants as kind
+use Rattle.csl_tree.specs.declared.token.Keyword.{Keyword}
+use Rattle.csl_tree.specs.declared.token.Keyword.TheVariants as word
+use Rattle.csl_tree.specs.declared.token.Mark.{Mark}
+use Rattle.csl_tree.specs.declared.token.Mark.TheVariants as mark
+use Rattle.csl_tree.specs.declared.program.UnaryOp.{UnaryOp}
+use Rattle.csl_tree.specs.declared.program.UnaryOp.TheVariants as unary_op
+use Rattle.csl_tree.specs.declared.program.Ty.{Ty}
+use Rattle.csl_tree.specs.declared.program.Ty.TheVariants as ty
+use Rattle.csl_tree.specs.declared.program.Valued.{Valued}
+use Rattle.csl_tree.specs.declared.program.Shared.{Shared}
+use Rattle.csl_tree.specs.declared.program.Param.{Param}
+use Rattle.csl_tree.specs.declared.program.Expr.{Expr}
+use Rattle.csl_tree.specs.declared.program.Place.{Place}
+use Rattle.csl_tree.specs.declared.program.Call.{Call}
+use Rattle.csl_tree.specs.declared.program.Item.{Item}
+use Rattle.csl_tree.specs.declared.program.Stmt.{Stmt}
+use Rattle.csl_grammar.specs.Expressions.{SpellsExpr, chain, prefixed, number, truth, named, indexed as indexed_expr, called as called_expr, paren, prefix_mark, whole}
+use Rattle.csl_grammar.specs.Stops.{BeginsOtherThan, Stops, operator_of}
+use Rattle.csl_grammar.specs.Programs.{IsMark, IsWord, IsName, type_word, SpellsPlace, bare, indexed, SpellsCall, called, SpellsDecl, declare, SpellsChange, set, add_to, SpellsItem, text, value, SpellsMoreItems, no_more, more, SpellsItems, nothing, something, SpellsValue, plain, minus, SpellsMoreValues, no_value, one_value, SpellsValues, no_values, some_values, SpellsInitial, unlisted, listed, SpellsShared, scalar, array, tally, SpellsParam, param, SpellsMoreParams, no_param, one_param, SpellsParams, no_params, some_params}
+use Rattle.csl_grammar.proofs.Unique.{unique, unique_arguments, stops_at, begins_clash}
+
+-- ---- what no expression begins with
+
+-- a mark that begins no expression
+pub record BeginsNone (m : Mark) : Type 0 where
+  pub no_prefix : (op : UnaryOp) → prefix_mark op ≡ m → ⊥
+  pub no_paren : m ≡ mark.OpenParen → ⊥
+
+pub no_expression : {level : ℕ} {ts rest behind : List Token} {t : Expr} {first : Token} {m : Mark} → SpellsExpr level ts rest t → ts ≡ first ∷ behind → first.kind ≡ kind.Mark m → BeginsNone m → ⊥
+no_expression (chain d c) e k none = no_expression d e k none
+no_expression (prefixed {op = op} s d) e k none = none.no_prefix op (cc)
+no_expression (number s) e k none = cc
+no_expression (truth s) e k none = cc
+no_expression (named s) e k none = cc
+no_expression (indexed_expr s o d c) e k none = cc
+no_expression (called_expr s o d c) e k none = cc
+no_expression (paren s d c) e k none = none.no_paren (cc)
+
+pub semicolon_begins_none : BeginsNone mark.Semicolon
+semicolon_begins_none = record { no_prefix = λ op e. at op e; no_paren = λ e. cc }
+  where
+    at : (op : UnaryOp) → prefix_mark op ≡ mark.Semicolon → ⊥
+    at unary_op.Neg e = cc
+    at unary_op.Not e = cc
+
+pub closing_begins_none : BeginsNone mark.CloseParen
+closing_begins_none = record { no_prefix = λ op e. at op e; no_paren = λ e. cc }
+  where
+    at : (op : UnaryOp) → prefix_mark op ≡ mark.CloseParen → ⊥
+    at unary_op.Neg e = cc
+    at unary_op.Not e = cc
+
+-- no expression begins with a text
+pub no_text : {level : ℕ} {ts rest behind : List Token} {t : Expr} {first : Token} {n : Name} → SpellsExpr level ts rest t → ts ≡ first ∷ behind → first.kind ≡ kind.Text n → ⊥
+no_text (chain d c) e k = no_text d e k
+no_text (prefixed {op = op} s d) e k = cc
+no_text (number s) e k = cc
+no_text (truth s) e k = cc
+no_text (named s) e k = cc
+no_text (indexed_expr s o d c) e k = cc
+no_text (called_expr s o d c) e k = cc
+no_text (paren s d c) e k = cc
+
+-- ---- what may stand behind an expression
+
+pub stops_semicolon : {first : Token} {ts : List Token} → IsMark first mark.Semicolon → Stops whole (first ∷ ts)
+stops_semicolon k = stops_at k refl (λ h. cc) (λ h. cc)
+
+pub stops_paren : {first : Token} {ts : List Token} → IsMark first mark.CloseParen → Stops whole (first ∷ ts)
+stops_paren k = stops_at k refl (λ h. cc) (λ h. cc)
+
+pub stops_bracket : {first : Token} {ts : List Token} → IsMark first mark.CloseBracket → Stops whole (first ∷ ts)
+stops_bracket k = stops_at k refl (λ h. cc) (λ h. cc)
+
+pub stops_comma : {first : Token} {ts : List Token} → IsMark first mark.Comma → Stops whole (first ∷ ts)
+stops_comma k = stops_at k refl (λ h. cc) (λ h. cc)
+
+pub type_word-same : (a b : Ty) → type_word a ≡ type_word b → a ≡ b
+type_word-same ty.Int ty.Int e = refl
+type_word-same ty.Int ty.Bool e = cc
+type_word-same ty.Bool ty.Int e = cc
+type_word-same ty.Bool ty.Bool e = refl
+
+-- ---- places, calls, declarations of locals, changes
+
+pub unique_place : {ts rest ts' rest' : List Token} {p p' : Place} → SpellsPlace ts rest p → SpellsPlace ts' rest' p' → ts ≡ ts' → BeginsOtherThan (kind.Mark mark.OpenBracket) rest → BeginsOtherThan (kind.Mark mark.OpenBracket) rest' → (rest ≡ rest') × (p ≡ p')
+unique_place (bare n) (bare n') e s s' = ((cc), (cc))
+unique_place (bare {rest = r} n) (indexed {opening = q} {tokens = w} n' o' d' c') e s s' = let same : r ≡ q ∷ w = cc in absurd (begins_clash _ s same o')
+unique_place (indexed {opening = q} {tokens = w} n o d c) (bare {rest = r} n') e s s' = let same : r ≡ q ∷ w = cc in absurd (begins_clash _ s' same o)
+unique_place (indexed n o d c) (indexed n' o' d' c') e s s' = let both : _ × _ = unique d d' (cc) (stops_bracket c) (stops_bracket c') in ((cc both.0), (cc both.1))
+
+pub unique_call : {ts rest ts' rest' : List Token} {k k' : Call} → SpellsCall ts rest k → SpellsCall ts' rest' k' → ts ≡ ts' → (rest ≡ rest') × (k ≡ k')
+unique_call (called n o d c) (called n' o' d' c') e = let both : _ × _ = unique_arguments d d' (cc) refl refl c c' in ((cc both.0), (cc both.1))
+
+pub unique_decl : {ts rest ts' rest' : List Token} {s s' : Stmt} → SpellsDecl ts rest s → SpellsDecl ts' rest' s' → ts ≡ ts' → Stops whole rest → Stops whole rest' → (rest ≡ rest') × (s ≡ s')
+unique_decl (declare {t = t} w n a d) (declare {t = t'} w' n' a' d') e s s' =
+    let type : t ≡ t' = type_word-same t t' (cc) in
+    let both : _ × _ = unique d d' (cc) s s' in
+    (both.0, (cc (type, both.1)))
+
+-- two places in front of a token that is no bracket
+places_before : {ts m ts' m' : List Token} {eq eq' : Token} {p p' : Place} → SpellsPlace ts (eq ∷ m) p → SpellsPlace ts' (eq' ∷ m') p' → ts ≡ ts' → (eq.kind ≡ kind.Mark mark.OpenBracket → ⊥) → (eq'.kind ≡ kind.Mark mark.OpenBracket → ⊥) → ((eq ∷ m) ≡ (eq' ∷ m')) × (p ≡ p')
+places_before d d' e other other' = unique_place d d' e other other'
+
+pub unique_change : {ts rest ts' rest' : List Token} {s s' : Stmt} → SpellsChange ts rest s → SpellsChange ts' rest' s' → ts ≡ ts' → Stops whole rest → Stops whole rest' → (rest ≡ rest') × (s ≡ s')
+unique_change (set p a d) (set p' a' d') e s s' =
+    let places : _ × _ = places_before p p' e (λ h. cc) (λ h. cc) in
+    let both : _ × _ = unique d d' (cc places.0) s s' in
+    (both.0, (cc (e, places.1, both.1)))
+unique_change (set p a d) (add_to p' a' d') e s s' = let places : _ × _ = places_before p p' e (λ h. cc) (λ h. cc) in absurd (cc places.0)
+unique_change (add_to p a d) (set p' a' d') e s s' = let places : _ × _ = places_before p p' e (λ h. cc) (λ h. cc) in absurd (cc places.0)
+unique_change (add_to p a d) (add_to p' a' d') e s s' =
+    let places : _ × _ = places_before p p' e (λ h. cc) (λ h. cc) in
+    let both : _ × _ = unique d d' (cc places.0) s s' in
+    (both.0, (cc (e, places.1, both.1)))
+
+-- ---- items of a print
+
+pub unique_item : {ts rest ts' rest' : List Token} {i i' : Item} → SpellsItem ts rest i → SpellsItem ts' rest' i' → ts ≡ ts' → Stops whole rest → Stops whole rest' → (rest ≡ rest') × (i ≡ i')
+unique_item (text k) (text k') e s s' = ((cc), (cc))
+unique_item (text k) (value d') e s s' = absurd (no_text d' (sym e) k)
+unique_item (value d) (text k') e s s' = absurd (no_text d e k')
+unique_item (value d) (value d') e s s' = let both : _ × _ = unique d d' e s s' in (both.0, (cc both.1))
+
+pub items_stop : {ts rest behind : List Token} {is : List Item} {closing : Token} → SpellsMoreItems ts rest is → rest ≡ closing ∷ behind → IsMark closing mark.CloseParen → Stops whole ts
+items_stop no_more e k = subst (λ (x : List Token). Stops whole x) (sym e) (stops_paren k)
+items_stop (more c d m) e k = stops_comma c
+
+-- no item begins with a closing parenthesis
+pub no_item : {ts rest behind : List Token} {i : Item} {closing : Token} → SpellsItem ts rest i → ts ≡ closing ∷ behind → IsMark closing mark.CloseParen → ⊥
+no_item (text k) e c = cc
+no_item (value d) e c = no_expression d e c closing_begins_none
+
+pub unique_more_items : {ts rest ts' rest' behind behind' : List Token} {is is' : List Item} {closing closing' : Token} → SpellsMoreItems ts rest is → SpellsMoreItems ts' rest' is' → ts ≡ ts' → rest ≡ closing ∷ behind → rest' ≡ closing' ∷ behind' → IsMark closing mark.CloseParen → IsMark closing' mark.CloseParen → (rest ≡ rest') × (is ≡ is')
+unique_more_items no_more no_more e r r' c c' = (e, refl)
+unique_more_items no_more (more m d ms) e r r' c c' = absurd (cc)
+unique_more_items (more m d ms) no_more e r r' c c' = absurd (cc)
+unique_more_items (more m d ms) (more m' d' ms') e r r' c c' =
+    let both : _ × _ = unique_item d d' (cc) (items_stop ms r c) (items_stop ms' r' c') in
+    let ends : _ × _ = unique_more_items ms ms' both.0 r r' c c' in
+    (ends.0, (cc (both.1, ends.1)))
+
+pub unique_items : {ts rest ts' rest' behind behind' : List Token} {is is' : List Item} {closing closing' : Token} → SpellsItems ts rest is → SpellsItems ts' rest' is' → ts ≡ ts' → rest ≡ closing ∷ behind → rest' ≡ closing' ∷ behind' → IsMark closing mark.CloseParen → IsMark closing' mark.CloseParen → (rest ≡ rest') × (is ≡ is')
+unique_items nothing nothing e r r' c c' = (e, refl)
+unique_items nothing (something d m) e r r' c c' = absurd (no_item d (sym e ∙ r) c)
+unique_items (something d m) nothing e r r' c c' = absurd (no_item d (e ∙ r') c')
+unique_items (something d m) (something d' m') e r r' c c' =
+    let both : _ × _ = unique_item d d' e (items_stop m r c) (items_stop m' r' c') in
+    let ends : _ × _ = unique_more_items m m' both.0 r r' c c' in
+    (ends.0, (cc (both.1, ends.1)))
+
+-- ---- shared declarations
+
+pub unique_value : {ts rest ts' rest' : List Token} {v v' : Valued} → SpellsValue ts rest v → SpellsValue ts' rest' v' → ts ≡ ts' → (rest ≡ rest') × (v ≡ v')
+unique_value (plain k) (plain k') e = ((cc), (cc))
+unique_value (plain k) (minus s' k') e = absurd (cc)
+unique_value (minus s k) (plain k') e = absurd (cc)
+unique_value (minus s k) (minus s' k') e = ((cc), (cc))
+
+-- no value begins with a closing brace
+pub no_value_closes : {ts rest behind : List Token} {v : Valued} {closing : Token} → SpellsValue ts rest v → ts ≡ closing ∷ behind → IsMark closing mark.CloseBrace → ⊥
+no_value_closes (plain k) e c = cc
+no_value_closes (minus s k) e c = cc
+
+pub unique_more_values : {ts rest ts' rest' behind behind' : List Token} {vs vs' : List Valued} {closing closing' : Token} → SpellsMoreValues ts rest vs → SpellsMoreValues ts' rest' vs' → ts ≡ ts' → rest ≡ closing ∷ behind → rest' ≡ closing' ∷ behind' → IsMark closing mark.CloseBrace → IsMark closing' mark.CloseBrace → (rest ≡ rest') × (vs ≡ vs')
+unique_more_values no_value no_value e r r' c c' = (e, refl)
+unique_more_values no_value (one_value m d ms) e r r' c c' = absurd (cc)
+unique_more_values (one_value m d ms) no_value e r r' c c' = absurd (cc)
+unique_more_values (one_value m d ms) (one_value m' d' ms') e r r' c c' =
+    let both : _ × _ = unique_value d d' (cc) in
+    let ends : _ × _ = unique_more_values ms ms' both.0 r r' c c' in
+    (ends.0, (cc (both.1, ends.1)))
+
+pub unique_values : {ts rest ts' rest' behind behind' : List Token} {vs vs' : List Valued} {closing closing' : Token} → SpellsValues ts rest vs → SpellsValues ts' rest' vs' → ts ≡ ts' → rest ≡ closing ∷ behind → rest' ≡ closing' ∷ behind' → IsMark closing mark.CloseBrace → IsMark closing' mark.CloseBrace → (rest ≡ rest') × (vs ≡ vs')
+unique_values no_values no_values e r r' c c' = (e, refl)
+unique_values no_values (some_values d m) e r r' c c' = absurd (no_value_closes d (sym e ∙ r) c)
+unique_values (some_values d m) no_values e r r' c c' = absurd (no_value_closes d (e ∙ r') c')
+unique_values (some_values d m) (some_values d' m') e r r' c c' =
+    let both : _ × _ = unique_value d d' e in
+    let ends : _ × _ = unique_more_values m m' both.0 r r' c c' in
+    (ends.0, (cc (both.1, ends.1)))
+
+pub unique_initial : {ts rest ts' rest' behind behind' : List Token} {b b' : Bool} {vs vs' : List Valued} {last last' : Token} → SpellsInitial ts rest b vs → SpellsInitial ts' rest' b' vs' → ts ≡ ts' → rest ≡ last ∷ behind → rest' ≡ last' ∷ behind' → IsMark last mark.Semicolon → IsMark last' mark.Semicolon → (rest ≡ rest') × (b ≡ b') × (vs ≡ vs')
+unique_initial unlisted unlisted e r r' l l' = (e, refl, refl)
+unique_initial unlisted (listed a o d c) e r r' l l' = absurd (cc)
+unique_initial (listed a o d c) unlisted e r r' l l' = absurd (cc)
+unique_initial (listed a o d c) (listed a' o' d' c') e r r' l l' = let both : _ × _ = unique_values d d' (cc) refl refl c c' in ((cc both.0), refl, both.1)
+
+pub unique_shared : {ts rest ts' rest' : List Token} {s s' : Shared} → SpellsShared ts rest s → SpellsShared ts' rest' s' → ts ≡ ts' → (rest ≡ rest') × (s ≡ s')
+unique_shared (scalar w n l) (scalar w' n' l') e = ((cc), (cc))
+unique_shared (scalar w n l) (array w' n' o' k' c' d' l') e = absurd (cc)
+unique_shared (scalar w n l) (tally w' i' n' l') e = absurd (cc)
+unique_shared (array w n o k c d l) (scalar w' n' l') e = absurd (cc)
+unique_shared (array w n o k c d l) (array w' n' o' k' c' d' l') e = let all : _ × _ × _ = unique_initial d d' (cc) refl refl l l' in ((cc all.0), (cc (all.1, all.2)))
+unique_shared (array w n o k c d l) (tally w' i' n' l') e = absurd (cc)
+unique_shared (tally w i n l) (scalar w' n' l') e = absurd (cc)
+unique_shared (tally w i n l) (array w' n' o' k' c' d' l') e = absurd (cc)
+unique_shared (tally w i n l) (tally w' i' n' l') e = ((cc), (cc))
+
+-- ---- parameters
+
+pub unique_param : {ts rest ts' rest' : List Token} {p p' : Param} → SpellsParam ts rest p → SpellsParam ts' rest' p' → ts ≡ ts' → (rest ≡ rest') × (p ≡ p')
+unique_param (param {t = t} w n) (param {t = t'} w' n') e = let type : t ≡ t' = type_word-same t t' (cc) in ((cc), (cc type))
+
+-- no parameter begins with a closing parenthesis
+pub no_param_closes : {ts rest behind : List Token} {p : Param} {closing : Token} → SpellsParam ts rest p → ts ≡ closing ∷ behind → IsMark closing mark.CloseParen → ⊥
+no_param_closes (param {t = t} w n) e c = cc
+
+pub unique_more_params : {ts rest ts' rest' behind behind' : List Token} {ps ps' : List Param} {closing closing' : Token} → SpellsMoreParams ts rest ps → SpellsMoreParams ts' rest' ps' → ts ≡ ts' → rest ≡ closing ∷ behind → rest' ≡ closing' ∷ behind' → IsMark closing mark.CloseParen → IsMark closing' mark.CloseParen → (rest ≡ rest') × (ps ≡ ps')
+unique_more_params no_param no_param e r r' c c' = (e, refl)
+unique_more_params no_param (one_param m d ms) e r r' c c' = absurd (cc)
+unique_more_params (one_param m d ms) no_param e r r' c c' = absurd (cc)
+unique_more_params (one_param m d ms) (one_param m' d' ms') e r r' c c' =
+    let both : _ × _ = unique_param d d' (cc) in
+    let ends : _ × _ = unique_more_params ms ms' both.0 r r' c c' in
+    (ends.0, (cc (both.1, ends.1)))
+
+pub unique_params : {ts rest ts' rest' behind behind' : List Token} {ps ps' : List Param} {closing closing' : Token} → SpellsParams ts rest ps → SpellsParams ts' rest' ps' → ts ≡ ts' → rest ≡ closing ∷ behind → rest' ≡ closing' ∷ behind' → IsMark closing mark.CloseParen → IsMark closing' mark.CloseParen → (rest ≡ rest') × (ps ≡ ps')
+unique_params no_params no_params e r r' c c' = (e, refl)
+unique_params no_params (some_params d m) e r r' c c' = absurd (no_param_closes d (sym e ∙ r) c)
+unique_params (some_params d m) no_params e r r' c c' = absurd (no_param_closes d (e ∙ r') c')
+unique_params (some_params d m) (some_params d' m') e r r' c c' =
+    let both : _ × _ = unique_param d d' e in
+    let ends : _ × _ = unique_more_params m m' both.0 r r' c c' in
+    (ends.0, (cc (both.1, ends.1)))
