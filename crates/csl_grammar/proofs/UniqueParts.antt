@@ -23,7 +23,7 @@ use Rattle.csl_tree.specs.declared.program.Item.{Item}
 use Rattle.csl_tree.specs.declared.program.Stmt.{Stmt}
 use Rattle.csl_grammar.specs.Expressions.{SpellsExpr, chain, prefixed, number, truth, named, indexed as indexed_expr, called as called_expr, paren, prefix_mark, whole}
 use Rattle.csl_grammar.specs.Stops.{BeginsOtherThan, Stops, operator_of}
-use Rattle.csl_grammar.specs.Programs.{IsMark, IsWord, IsName, type_word, SpellsPlace, bare, indexed, SpellsCall, called, SpellsDecl, declare, SpellsChange, set, add_to, SpellsItem, text, value, SpellsMoreItems, no_more, more, SpellsItems, nothing, something, SpellsValue, plain, minus, SpellsMoreValues, no_value, one_value, SpellsValues, no_values, some_values, SpellsInitial, unlisted, listed, SpellsShared, scalar, array, tally, SpellsParam, param, SpellsMoreParams, no_param, one_param, SpellsParams, no_params, some_params}
+use Rattle.csl_grammar.specs.Programs.{IsMark, IsWord, IsName, type_word, SpellsPlace, bare, indexed, SpellsCall, called, SpellsDecl, declare, SpellsChange, set, add_to, SpellsItem, text, value, MoreOf, no_more, more, ListOf, nothing, something, SpellsValue, plain, minus, SpellsInitial, unlisted, listed, SpellsShared, scalar, array, tally, SpellsParam, param}
 use Rattle.csl_grammar.proofs.Unique.{unique, unique_arguments, stops_at, begins_clash}
 
 -- ---- what no expression begins with
@@ -129,32 +129,48 @@ unique_item (text k) (value d') e s s' = absurd (no_text d' (sym e) k)
 unique_item (value d) (text k') e s s' = absurd (no_text d e k')
 unique_item (value d) (value d') e s s' = let both : _ × _ = unique d d' e s s' in (both.0, (cc both.1))
 
-pub items_stop : {ts rest behind : List Token} {is : List Item} {closing : Token} → SpellsMoreItems ts rest is → rest ≡ closing ∷ behind → IsMark closing mark.CloseParen → Stops whole ts
-items_stop no_more e k = subst (λ (x : List Token). Stops whole x) (sym e) (stops_paren k)
-items_stop (more c d m) e k = stops_comma c
-
 -- no item begins with a closing parenthesis
 pub no_item : {ts rest behind : List Token} {i : Item} {closing : Token} → SpellsItem ts rest i → ts ≡ closing ∷ behind → IsMark closing mark.CloseParen → ⊥
 no_item (text k) e c = cc
 no_item (value d) e c = no_expression d e c closing_begins_none
 
-pub unique_more_items : {ts rest ts' rest' behind behind' : List Token} {is is' : List Item} {closing closing' : Token} → SpellsMoreItems ts rest is → SpellsMoreItems ts' rest' is' → ts ≡ ts' → rest ≡ closing ∷ behind → rest' ≡ closing' ∷ behind' → IsMark closing mark.CloseParen → IsMark closing' mark.CloseParen → (rest ≡ rest') × (is ≡ is')
-unique_more_items no_more no_more e r r' c c' = (e, refl)
-unique_more_items no_more (more m d ms) e r r' c c' = absurd (cc)
-unique_more_items (more m d ms) no_more e r r' c c' = absurd (cc)
-unique_more_items (more m d ms) (more m' d' ms') e r r' c c' =
-    let both : _ × _ = unique_item d d' (cc) (items_stop ms r c) (items_stop ms' r' c') in
-    let ends : _ × _ = unique_more_items ms ms' both.0 r r' c c' in
-    (ends.0, (cc (both.1, ends.1)))
+-- ---- lists with commas between, up to a token with which nothing in them begins
 
-pub unique_items : {ts rest ts' rest' behind behind' : List Token} {is is' : List Item} {closing closing' : Token} → SpellsItems ts rest is → SpellsItems ts' rest' is' → ts ≡ ts' → rest ≡ closing ∷ behind → rest' ≡ closing' ∷ behind' → IsMark closing mark.CloseParen → IsMark closing' mark.CloseParen → (rest ≡ rest') × (is ≡ is')
-unique_items nothing nothing e r r' c c' = (e, refl)
-unique_items nothing (something d m) e r r' c c' = absurd (no_item d (sym e ∙ r) c)
-unique_items (something d m) nothing e r r' c c' = absurd (no_item d (e ∙ r') c')
-unique_items (something d m) (something d' m') e r r' c c' =
-    let both : _ × _ = unique_item d d' e (items_stop m r c) (items_stop m' r' c') in
-    let ends : _ × _ = unique_more_items m m' both.0 r r' c c' in
-    (ends.0, (cc (both.1, ends.1)))
+module _ {T : Type 0} {spells : List Token → List Token → T → Type 0} (k : TokenKind) (stops : List Token → Type 0)
+    (one : (ts rest ts' rest' : List Token) (x x' : T) → spells ts rest x → spells ts' rest' x' → ts ≡ ts' → stops rest → stops rest' → (rest ≡ rest') × (x ≡ x'))
+    (never : (ts rest behind : List Token) (x : T) (first : Token) → spells ts rest x → ts ≡ first ∷ behind → first.kind ≡ k → ⊥)
+    (other : k ≡ kind.Mark mark.Comma → ⊥)
+    (at_end : (token : Token) (ts : List Token) → token.kind ≡ k → stops (token ∷ ts))
+    (at_comma : (token : Token) (ts : List Token) → token.kind ≡ kind.Mark mark.Comma → stops (token ∷ ts)) where
+  -- in front of more, or of the end, an element has stopped
+  pub list_stops : {ts rest behind : List Token} {xs : List T} {last : Token} → MoreOf spells ts rest xs → rest ≡ last ∷ behind → last.kind ≡ k → stops ts
+  list_stops {behind = behind} {last = last} no_more e l = subst stops (sym e) (at_end last behind l)
+  list_stops (more {comma = comma} {tokens = tokens} c d m) e l = at_comma comma tokens c
+
+  pub unique_more : {ts rest ts' rest' behind behind' : List Token} {xs xs' : List T} {last last' : Token} → MoreOf spells ts rest xs → MoreOf spells ts' rest' xs' → ts ≡ ts' → rest ≡ last ∷ behind → rest' ≡ last' ∷ behind' → last.kind ≡ k → last'.kind ≡ k → (rest ≡ rest') × (xs ≡ xs')
+  unique_more no_more no_more e r r' l l' = (e, refl)
+  unique_more no_more (more c d m) e r r' l l' = absurd (other (cc))
+  unique_more (more c d m) no_more e r r' l l' = absurd (other (cc))
+  unique_more (more c d m) (more c' d' m') e r r' l l' =
+      let both : _ × _ = one _ _ _ _ _ _ d d' (cc) (list_stops m r l) (list_stops m' r' l') in
+      let ends : _ × _ = unique_more m m' both.0 r r' l l' in
+      (ends.0, (cc (both.1, ends.1)))
+
+  pub unique_list : {ts rest ts' rest' behind behind' : List Token} {xs xs' : List T} {last last' : Token} → ListOf spells ts rest xs → ListOf spells ts' rest' xs' → ts ≡ ts' → rest ≡ last ∷ behind → rest' ≡ last' ∷ behind' → last.kind ≡ k → last'.kind ≡ k → (rest ≡ rest') × (xs ≡ xs')
+  unique_list nothing nothing e r r' l l' = (e, refl)
+  unique_list nothing (something d m) e r r' l l' = absurd (never _ _ _ _ _ d (sym e ∙ r) l)
+  unique_list (something d m) nothing e r r' l l' = absurd (never _ _ _ _ _ d (e ∙ r') l')
+  unique_list (something d m) (something d' m') e r r' l l' =
+      let both : _ × _ = one _ _ _ _ _ _ d d' e (list_stops m r l) (list_stops m' r' l') in
+      let ends : _ × _ = unique_more m m' both.0 r r' l l' in
+      (ends.0, (cc (both.1, ends.1)))
+
+-- what may be followed by anything
+abbrev pub anywhere : List Token → Type 0
+anywhere rest = Unit {0}
+
+pub unique_items : {ts rest ts' rest' behind behind' : List Token} {xs xs' : List Item} {last last' : Token} → ListOf SpellsItem ts rest xs → ListOf SpellsItem ts' rest' xs' → ts ≡ ts' → rest ≡ last ∷ behind → rest' ≡ last' ∷ behind' → IsMark last mark.CloseParen → IsMark last' mark.CloseParen → (rest ≡ rest') × (xs ≡ xs')
+unique_items d d' e r r' l l' = unique_list (kind.Mark mark.CloseParen) (Stops whole) (λ _ _ _ _ _ _ a b. unique_item a b) (λ _ _ _ _ _ a. no_item a) (λ h. cc) (λ _ _ h. stops_paren h) (λ _ _ h. stops_comma h) d d' e r r' l l'
 
 -- ---- shared declarations
 
@@ -169,23 +185,8 @@ pub no_value_closes : {ts rest behind : List Token} {v : Valued} {closing : Toke
 no_value_closes (plain k) e c = cc
 no_value_closes (minus s k) e c = cc
 
-pub unique_more_values : {ts rest ts' rest' behind behind' : List Token} {vs vs' : List Valued} {closing closing' : Token} → SpellsMoreValues ts rest vs → SpellsMoreValues ts' rest' vs' → ts ≡ ts' → rest ≡ closing ∷ behind → rest' ≡ closing' ∷ behind' → IsMark closing mark.CloseBrace → IsMark closing' mark.CloseBrace → (rest ≡ rest') × (vs ≡ vs')
-unique_more_values no_value no_value e r r' c c' = (e, refl)
-unique_more_values no_value (one_value m d ms) e r r' c c' = absurd (cc)
-unique_more_values (one_value m d ms) no_value e r r' c c' = absurd (cc)
-unique_more_values (one_value m d ms) (one_value m' d' ms') e r r' c c' =
-    let both : _ × _ = unique_value d d' (cc) in
-    let ends : _ × _ = unique_more_values ms ms' both.0 r r' c c' in
-    (ends.0, (cc (both.1, ends.1)))
-
-pub unique_values : {ts rest ts' rest' behind behind' : List Token} {vs vs' : List Valued} {closing closing' : Token} → SpellsValues ts rest vs → SpellsValues ts' rest' vs' → ts ≡ ts' → rest ≡ closing ∷ behind → rest' ≡ closing' ∷ behind' → IsMark closing mark.CloseBrace → IsMark closing' mark.CloseBrace → (rest ≡ rest') × (vs ≡ vs')
-unique_values no_values no_values e r r' c c' = (e, refl)
-unique_values no_values (some_values d m) e r r' c c' = absurd (no_value_closes d (sym e ∙ r) c)
-unique_values (some_values d m) no_values e r r' c c' = absurd (no_value_closes d (e ∙ r') c')
-unique_values (some_values d m) (some_values d' m') e r r' c c' =
-    let both : _ × _ = unique_value d d' e in
-    let ends : _ × _ = unique_more_values m m' both.0 r r' c c' in
-    (ends.0, (cc (both.1, ends.1)))
+pub unique_values : {ts rest ts' rest' behind behind' : List Token} {xs xs' : List Valued} {last last' : Token} → ListOf SpellsValue ts rest xs → ListOf SpellsValue ts' rest' xs' → ts ≡ ts' → rest ≡ last ∷ behind → rest' ≡ last' ∷ behind' → IsMark last mark.CloseBrace → IsMark last' mark.CloseBrace → (rest ≡ rest') × (xs ≡ xs')
+unique_values d d' e r r' l l' = unique_list (kind.Mark mark.CloseBrace) anywhere (λ _ _ _ _ _ _ a b f _ _. unique_value a b f) (λ _ _ _ _ _ a. no_value_closes a) (λ h. cc) (λ _ _ _. tt) (λ _ _ _. tt) d d' e r r' l l'
 
 pub unique_initial : {ts rest ts' rest' behind behind' : List Token} {b b' : Bool} {vs vs' : List Valued} {last last' : Token} → SpellsInitial ts rest b vs → SpellsInitial ts' rest' b' vs' → ts ≡ ts' → rest ≡ last ∷ behind → rest' ≡ last' ∷ behind' → IsMark last mark.Semicolon → IsMark last' mark.Semicolon → (rest ≡ rest') × (b ≡ b') × (vs ≡ vs')
 unique_initial unlisted unlisted e r r' l l' = (e, refl, refl)
@@ -213,20 +214,5 @@ unique_param (param {t = t} w n) (param {t = t'} w' n') e = let type : t ≡ t' 
 pub no_param_closes : {ts rest behind : List Token} {p : Param} {closing : Token} → SpellsParam ts rest p → ts ≡ closing ∷ behind → IsMark closing mark.CloseParen → ⊥
 no_param_closes (param {t = t} w n) e c = cc
 
-pub unique_more_params : {ts rest ts' rest' behind behind' : List Token} {ps ps' : List Param} {closing closing' : Token} → SpellsMoreParams ts rest ps → SpellsMoreParams ts' rest' ps' → ts ≡ ts' → rest ≡ closing ∷ behind → rest' ≡ closing' ∷ behind' → IsMark closing mark.CloseParen → IsMark closing' mark.CloseParen → (rest ≡ rest') × (ps ≡ ps')
-unique_more_params no_param no_param e r r' c c' = (e, refl)
-unique_more_params no_param (one_param m d ms) e r r' c c' = absurd (cc)
-unique_more_params (one_param m d ms) no_param e r r' c c' = absurd (cc)
-unique_more_params (one_param m d ms) (one_param m' d' ms') e r r' c c' =
-    let both : _ × _ = unique_param d d' (cc) in
-    let ends : _ × _ = unique_more_params ms ms' both.0 r r' c c' in
-    (ends.0, (cc (both.1, ends.1)))
-
-pub unique_params : {ts rest ts' rest' behind behind' : List Token} {ps ps' : List Param} {closing closing' : Token} → SpellsParams ts rest ps → SpellsParams ts' rest' ps' → ts ≡ ts' → rest ≡ closing ∷ behind → rest' ≡ closing' ∷ behind' → IsMark closing mark.CloseParen → IsMark closing' mark.CloseParen → (rest ≡ rest') × (ps ≡ ps')
-unique_params no_params no_params e r r' c c' = (e, refl)
-unique_params no_params (some_params d m) e r r' c c' = absurd (no_param_closes d (sym e ∙ r) c)
-unique_params (some_params d m) no_params e r r' c c' = absurd (no_param_closes d (e ∙ r') c')
-unique_params (some_params d m) (some_params d' m') e r r' c c' =
-    let both : _ × _ = unique_param d d' e in
-    let ends : _ × _ = unique_more_params m m' both.0 r r' c c' in
-    (ends.0, (cc (both.1, ends.1)))
+pub unique_params : {ts rest ts' rest' behind behind' : List Token} {xs xs' : List Param} {last last' : Token} → ListOf SpellsParam ts rest xs → ListOf SpellsParam ts' rest' xs' → ts ≡ ts' → rest ≡ last ∷ behind → rest' ≡ last' ∷ behind' → IsMark last mark.CloseParen → IsMark last' mark.CloseParen → (rest ≡ rest') × (xs ≡ xs')
+unique_params d d' e r r' l l' = unique_list (kind.Mark mark.CloseParen) anywhere (λ _ _ _ _ _ _ a b f _ _. unique_param a b f) (λ _ _ _ _ _ a. no_param_closes a) (λ h. cc) (λ _ _ _. tt) (λ _ _ _. tt) d d' e r r' l l'

@@ -56,6 +56,23 @@ result_word gives.Nothing = word.Void
 result_word gives.Int = word.Int
 result_word gives.Bool = word.Bool
 
+-- a rule as often as it comes: {x}
+pub data Each {T : Type 0} (spells : List Token → List Token → T → Type 0) : List Token → List Token → List T → Type 0 where
+  stop : {rest : List Token} → Each spells rest rest []
+  again : {tokens middle rest : List Token} {x : T} {xs : List T} → spells tokens middle x → Each spells middle rest xs → Each spells tokens rest (x ∷ xs)
+
+-- {"," x}
+pub data MoreOf {T : Type 0} (spells : List Token → List Token → T → Type 0) : List Token → List Token → List T → Type 0 where
+  no_more : {rest : List Token} → MoreOf spells rest rest []
+  more : {comma : Token} {tokens middle rest : List Token} {x : T} {xs : List T} →
+      IsMark comma mark.Comma → spells tokens middle x → MoreOf spells middle rest xs → MoreOf spells (comma ∷ tokens) rest (x ∷ xs)
+
+-- [x {"," x}]
+pub data ListOf {T : Type 0} (spells : List Token → List Token → T → Type 0) : List Token → List Token → List T → Type 0 where
+  nothing : {rest : List Token} → ListOf spells rest rest []
+  something : {tokens middle rest : List Token} {x : T} {xs : List T} →
+      spells tokens middle x → MoreOf spells middle rest xs → ListOf spells tokens rest (x ∷ xs)
+
 -- NAME ["[" expr "]"]
 pub data SpellsPlace : List Token → List Token → Place → Type 0 where
   bare : {token : Token} {rest : List Token} {name : Name} → IsName token name → SpellsPlace (token ∷ rest) rest (place name None)
@@ -88,18 +105,6 @@ pub data SpellsChange : List Token → List Token → Stmt → Type 0 where
 pub data SpellsItem : List Token → List Token → Item → Type 0 where
   text : {token : Token} {rest : List Token} {t : Name} → token.kind ≡ kind.Text t → SpellsItem (token ∷ rest) rest (item.Text t)
   value : {tokens rest : List Token} {e : Expr} → SpellsExpr whole tokens rest e → SpellsItem tokens rest (item.Value e)
-
--- {"," item}
-pub data SpellsMoreItems : List Token → List Token → List Item → Type 0 where
-  no_more : {rest : List Token} → SpellsMoreItems rest rest []
-  more : {comma : Token} {tokens middle rest : List Token} {i : Item} {is : List Item} →
-      IsMark comma mark.Comma → SpellsItem tokens middle i → SpellsMoreItems middle rest is → SpellsMoreItems (comma ∷ tokens) rest (i ∷ is)
-
--- [item {"," item}]
-pub data SpellsItems : List Token → List Token → List Item → Type 0 where
-  nothing : {rest : List Token} → SpellsItems rest rest []
-  something : {tokens middle rest : List Token} {i : Item} {is : List Item} →
-      SpellsItem tokens middle i → SpellsMoreItems middle rest is → SpellsItems tokens rest (i ∷ is)
 
 mutual
   pub data SpellsStmt : List Token → List Token → Stmt → Type 0 where
@@ -140,7 +145,7 @@ mutual
         IsMark closing mark.CloseParen → IsMark semicolon mark.Semicolon →
         SpellsStmt (first ∷ opening ∷ tokens) rest (stmt first.at (form.Assert e))
     prints : {first opening closing semicolon : Token} {tokens rest : List Token} {is : List Item} →
-        IsWord first word.Print → IsMark opening mark.OpenParen → SpellsItems tokens (closing ∷ semicolon ∷ rest) is →
+        IsWord first word.Print → IsMark opening mark.OpenParen → ListOf SpellsItem tokens (closing ∷ semicolon ∷ rest) is →
         IsMark closing mark.CloseParen → IsMark semicolon mark.Semicolon →
         SpellsStmt (first ∷ opening ∷ tokens) rest (stmt first.at (form.Print is))
     -- "parbegin" routine {routine} "parend" ";"
@@ -202,23 +207,11 @@ pub data SpellsValue : List Token → List Token → Valued → Type 0 where
   minus : {sign token : Token} {rest : List Token} {n : ℤ} → IsMark sign mark.Minus → token.kind ≡ kind.Number n →
       SpellsValue (sign ∷ token ∷ rest) rest (record { at = sign.at; number = neg_ℤ n })
 
--- {"," value}
-pub data SpellsMoreValues : List Token → List Token → List Valued → Type 0 where
-  no_value : {rest : List Token} → SpellsMoreValues rest rest []
-  one_value : {comma : Token} {tokens middle rest : List Token} {v : Valued} {vs : List Valued} →
-      IsMark comma mark.Comma → SpellsValue tokens middle v → SpellsMoreValues middle rest vs → SpellsMoreValues (comma ∷ tokens) rest (v ∷ vs)
-
--- [value {"," value}]
-pub data SpellsValues : List Token → List Token → List Valued → Type 0 where
-  no_values : {rest : List Token} → SpellsValues rest rest []
-  some_values : {tokens middle rest : List Token} {v : Valued} {vs : List Valued} →
-      SpellsValue tokens middle v → SpellsMoreValues middle rest vs → SpellsValues tokens rest (v ∷ vs)
-
 -- ["=" "{" [value {"," value}] "}"], and whether it is there
 pub data SpellsInitial : List Token → List Token → Bool → List Valued → Type 0 where
   unlisted : {rest : List Token} → SpellsInitial rest rest false []
   listed : {equals opening closing : Token} {tokens rest : List Token} {vs : List Valued} →
-      IsMark equals mark.Assign → IsMark opening mark.OpenBrace → SpellsValues tokens (closing ∷ rest) vs → IsMark closing mark.CloseBrace →
+      IsMark equals mark.Assign → IsMark opening mark.OpenBrace → ListOf SpellsValue tokens (closing ∷ rest) vs → IsMark closing mark.CloseBrace →
       SpellsInitial (equals ∷ opening ∷ tokens) rest true vs
 
 pub data SpellsShared : List Token → List Token → Shared → Type 0 where
@@ -242,29 +235,12 @@ pub data SpellsParam : List Token → List Token → Param → Type 0 where
   param : {first token : Token} {rest : List Token} {t : Ty} {name : Name} →
       IsWord first (type_word t) → IsName token name → SpellsParam (first ∷ token ∷ rest) rest (record { name = name; ty = t })
 
--- {"," param}
-pub data SpellsMoreParams : List Token → List Token → List Param → Type 0 where
-  no_param : {rest : List Token} → SpellsMoreParams rest rest []
-  one_param : {comma : Token} {tokens middle rest : List Token} {p : Param} {ps : List Param} →
-      IsMark comma mark.Comma → SpellsParam tokens middle p → SpellsMoreParams middle rest ps → SpellsMoreParams (comma ∷ tokens) rest (p ∷ ps)
-
--- [param {"," param}]
-pub data SpellsParams : List Token → List Token → List Param → Type 0 where
-  no_params : {rest : List Token} → SpellsParams rest rest []
-  some_params : {tokens middle rest : List Token} {p : Param} {ps : List Param} →
-      SpellsParam tokens middle p → SpellsMoreParams middle rest ps → SpellsParams tokens rest (p ∷ ps)
-
 -- ("int"|"bool"|"void") NAME "(" [param {"," param}] ")" block
 pub data SpellsFunction : List Token → List Token → Function → Type 0 where
   function : {first token opening closing : Token} {tokens middle rest : List Token} {g : Gives} {name : Name} {ps : List Param} {body : List Stmt} →
-      IsWord first (result_word g) → IsName token name → IsMark opening mark.OpenParen → SpellsParams tokens (closing ∷ middle) ps →
+      IsWord first (result_word g) → IsName token name → IsMark opening mark.OpenParen → ListOf SpellsParam tokens (closing ∷ middle) ps →
       IsMark closing mark.CloseParen → SpellsBlock middle rest body →
       SpellsFunction (first ∷ token ∷ opening ∷ tokens) rest (record { name = name; gives = g; params = ps; body = body })
-
--- rules one after another, as often as they come
-pub data Each {T : Type 0} (spells : List Token → List Token → T → Type 0) : List Token → List Token → List T → Type 0 where
-  stop : {rest : List Token} → Each spells rest rest []
-  again : {tokens middle rest : List Token} {x : T} {xs : List T} → spells tokens middle x → Each spells middle rest xs → Each spells tokens rest (x ∷ xs)
 
 -- "shared" "{" {shared} "}" {function} "main" block END
 pub data SpellsProgram : List Token → Program → Type 0 where
