@@ -15,6 +15,8 @@ use Rattle.csl_parser.specs.declared.ParseError.{ParseError}
 use Rattle.csl_parser.specs.declared.ParseError.TheVariants as error
 use Rattle.csl_tree.specs.declared.program.Expr.{Expr}
 use Rattle.csl_grammar.specs.Stops.{IsEnded, BeginsOtherThan, Stops, operator_of}
+use Rattle.csl_tree.specs.declared.name.Name.{Name}
+use Rattle.csl_grammar.specs.Programs.{Each, MoreOf, ListOf}
 use Rattle.csl_grammar.specs.Expressions.{level_of, mark_of, SpellsArguments, SpellsMore}
 
 -- The tree stands at the front of the tokens, whatever follows it, and cannot go on with what does.
@@ -111,3 +113,23 @@ SpellsClosed tokens rest args = (closing : Token) × SpellsArguments tokens (clo
 -- the same where some arguments were read already
 abbrev pub SpellsMoreClosed : List Expr → List Token → List Token → List Expr → Type 0
 SpellsMoreClosed sofar tokens rest args = (closing : Token) × (es : List Expr) × SpellsMore tokens (closing ∷ rest) es × (closing.kind ≡ kind.Mark mark.CloseParen) × (args ≡ sofar ++ es)
+
+-- one rule and then another, which may look at the first's tree
+abbrev pub Then : {A T : Type 0} → (List Token → List Token → A → Type 0) → (A → List Token → List Token → T → Type 0) → List Token → List Token → T → Type 0
+Then {A} first second tokens rest tree = (middle : List Token) × (part : A) × first tokens middle part × second part middle rest tree
+
+-- one token that is a name
+abbrev pub IsNamed : List Token → List Token → Name → Type 0
+IsNamed tokens rest name = (token : Token) × (tokens ≡ token ∷ rest) × (token.kind ≡ kind.Named name)
+
+-- the rest of a list whose front was read, and the token of that kind behind it
+abbrev pub Until : {T : Type 0} → TokenKind → (List Token → List Token → T → Type 0) → List T → List Token → List Token → List T → Type 0
+Until {T} k spells sofar tokens rest xs = (closing : Token) × (ys : List T) × Each spells tokens (closing ∷ rest) ys × (closing.kind ≡ k) × (xs ≡ sofar ++ ys)
+
+-- the same of a list with commas of which something was read
+abbrev pub MoreUntil : {T : Type 0} → TokenKind → (List Token → List Token → T → Type 0) → List T → List Token → List Token → List T → Type 0
+MoreUntil {T} k spells sofar tokens rest xs = (closing : Token) × (ys : List T) × MoreOf spells tokens (closing ∷ rest) ys × (closing.kind ≡ k) × (xs ≡ sofar ++ ys)
+
+-- a list with commas, and the token of that kind behind it
+abbrev pub ListUntil : {T : Type 0} → TokenKind → (List Token → List Token → T → Type 0) → List Token → List Token → List T → Type 0
+ListUntil k spells tokens rest xs = (closing : Token) × ListOf spells tokens (closing ∷ rest) xs × (closing.kind ≡ k)

@@ -1,0 +1,313 @@
+-- A rule that is one rule and then another, lists of rules, and a rule that the first token tells.
+use Rattle.std.proofs.Common.{◌≡◌, ℕ, List, [], ◌∷◌, ◌++◌, Result, Ok, Err, refl, ap, sym, ◌∙◌, subst, append_assoc, append-nil}
+use Rattle.csl_tree.specs.declared.name.Name.{Name}
+use Rattle.csl_tree.specs.declared.token.Token.{Token}
+use Rattle.csl_tree.specs.declared.token.TokenKind.{TokenKind}
+use Rattle.csl_tree.specs.declared.token.TokenKind.TheVariants as kind
+use Rattle.csl_tree.specs.declared.token.Mark.{Mark}
+use Rattle.csl_tree.specs.declared.token.Mark.TheVariants as mark
+use Rattle.csl_parser.specs.declared.ParseError.{ParseError}
+use Rattle.csl_grammar.specs.Stops.{IsEnded, BeginsOtherThan}
+use Rattle.csl_grammar.specs.Programs.{Each, stop, again, MoreOf, no_more, more, ListOf, nothing, something}
+use Rattle.csl_parser.specs.Reading.{Found, Refused, Fails, Answers, IsToken, IsNamed, Returns, Then, Until, MoreUntil, ListUntil, stops_anywhere}
+use Rattle.csl_grammar.proofs.Unique.{begins_clash}
+use Rattle.csl_parser.proofs.Sequence.{Cut, Sequence, Passes, after_first, second_error, after_second, passes_second, passes_through, passed, passed_error}
+use Rattle.csl_parser.proofs.Rules.{returns_found}
+use Rattle.csl_parser.proofs.Single.{some_token, ended_behind, token_found}
+
+-- some tokens are spelled, whatever follows them
+pub record Completes {T : Type 0} (spells : List Token → List Token → T → Type 0) : Type 0 where
+  pub ending : List Token
+  pub finished : T
+  pub some : (others : List Token) → spells (ending ++ others) others finished
+
+-- what makes `Then` readable: a first part has one end and one tree, what follows it stops it, and from behind it some tree can be finished
+pub record Follows {A T : Type 0} (first : List Token → List Token → A → Type 0) (stops : List Token → Type 0) (second : A → List Token → List Token → T → Type 0) (ends : List Token → Type 0) : Type 0 where
+  pub unique : (tokens middle middle' : List Token) (part part' : A) → first tokens middle part → first tokens middle' part' → stops middle → stops middle' → (middle ≡ middle') × (part ≡ part')
+  pub same_first : (token : Token) (xs ys : List Token) → stops (token ∷ xs) → stops (token ∷ ys)
+  pub ahead : (middle rest : List Token) (part : A) (tree : T) → second part middle rest tree → ends rest → stops middle
+  pub completes : (part : A) → Completes (second part)
+
+module _ {A T : Type 0} {first : List Token → List Token → A → Type 0} {stops : List Token → Type 0} {second : A → List Token → List Token → T → Type 0} {ends : List Token → Type 0} (f : Follows first stops second ends) where
+  pub then_rule : Sequence first stops second (Then first second) ends
+  then_rule = record {
+    join = λ tokens middle rest part tree one two. (middle, part, one, two);
+    cut = λ tokens rest tree d s. record { middle = d.0; part = d.1; one = d.2; stopped = f.ahead d.0 rest d.1 tree d.3 s; two = d.3 };
+    unique = f.unique;
+    same_first = f.same_first;
+    ending = λ part. (f.completes part).ending;
+    finished = λ part. (f.completes part).finished;
+    some = λ part others. (f.completes part).some others;
+  }
+
+  pub then_first : (tokens : List Token) (e : ParseError) → Fails first stops tokens e → Fails (Then first second) ends tokens e
+  then_first tokens e h = after_first first stops second (Then first second) ends then_rule tokens e h
+
+  pub then_second : (tokens middle : List Token) (part : A) (e : ParseError) → Found first stops tokens middle part → Fails (second part) ends middle e → Fails (Then first second) ends tokens e
+  then_second tokens middle part e g h = second_error first stops second (Then first second) ends then_rule tokens middle part e g h
+
+  pub then_found : (tokens middle rest : List Token) (part : A) (tree : T) → Found first stops tokens middle part → Found (second part) ends middle rest tree → Found (Then first second) ends tokens rest tree
+  then_found tokens middle rest part tree g h = (passes_second first stops second (Then first second) ends then_rule tokens middle part g).found rest tree h
+
+  pub then_answers : {X : Type 0} (view : X → T × List Token) (tokens middle : List Token) (part : A) (result : Result X ParseError) → Found first stops tokens middle part → Answers (second part) ends middle view result → Answers (Then first second) ends tokens view result
+  then_answers view tokens middle part result g h = after_second first stops second (Then first second) ends then_rule view tokens middle part result g h
+
+  pub then_passes : (tokens middle : List Token) (part : A) → Found first stops tokens middle part → Passes (second part) (Then first second) ends middle tokens
+  then_passes tokens middle part g = passes_second first stops second (Then first second) ends then_rule tokens middle part g
+
+-- ---- what completes
+
+pub completes_returns : {T : Type 0} (known : T) → Completes (Returns known)
+completes_returns known = record { ending = []; finished = known; some = λ others. (refl, refl) }
+
+pub completes_token : (k : TokenKind) → Completes (IsToken k)
+completes_token k = record { ending = some_token k ∷ []; finished = some_token k; some = λ others. (refl, refl) }
+
+pub no_name : Name
+no_name = record { text = []; at = 0 }
+
+pub completes_name : Completes IsNamed
+completes_name = record { ending = some_token (kind.Named no_name) ∷ []; finished = no_name; some = λ others. (some_token (kind.Named no_name), refl, refl) }
+
+pub completes_then : {A T : Type 0} {first : List Token → List Token → A → Type 0} {second : A → List Token → List Token → T → Type 0} → Completes first → ((part : A) → Completes (second part)) → Completes (Then first second)
+completes_then {first = first} {second = second} one two =
+    let rest = two one.finished in
+    record {
+      ending = one.ending ++ rest.ending;
+      finished = rest.finished;
+      some = λ others.
+          let along : List Token → Type 0 = λ x. Then first second x others rest.finished in
+          subst along (sym (append_assoc one.ending rest.ending others)) (rest.ending ++ others, one.finished, one.some (rest.ending ++ others), rest.some others);
+    }
+
+-- ---- tokens
+
+pub token_follows : {T : Type 0} (k : TokenKind) {second : Token → List Token → List Token → T → Type 0} (ends : List Token → Type 0) → ((token : Token) → Completes (second token)) → Follows (IsToken k) stops_anywhere second ends
+token_follows k ends completes = record {
+  unique = λ tokens middle middle' t t' d d' s s'. ((cc), (cc));
+  same_first = λ token xs ys s. tt;
+  ahead = λ middle rest part tree d s. tt;
+  completes = completes;
+}
+
+pub name_follows : {T : Type 0} {second : Name → List Token → List Token → T → Type 0} (ends : List Token → Type 0) → ((name : Name) → Completes (second name)) → Follows IsNamed stops_anywhere second ends
+name_follows ends completes = record {
+  unique = λ tokens middle middle' t t' d d' s s'. ((cc), (cc));
+  same_first = λ token xs ys s. tt;
+  ahead = λ middle rest part tree d s. tt;
+  completes = completes;
+}
+
+-- ---- a rule that the first token tells
+
+alike_at : (P : List Token → Type 0) → ((token : Token) (xs ys : List Token) → P (token ∷ xs) → P (token ∷ ys)) → (read : List Token) (token : Token) (left others : List Token) → P (read ++ token ∷ left) → P (read ++ token ∷ others)
+alike_at P alike [] token left others h = alike token left others h
+alike_at P alike (x ∷ read) token left others h = alike x (read ++ token ∷ left) (read ++ token ∷ others) h
+
+-- what is answered for a rule is answered for a wider one that is no wider in front of a first token like this
+pub narrowed_by : {T : Type 0} (P : List Token → Type 0) → ((token : Token) (xs ys : List Token) → P (token ∷ xs) → P (token ∷ ys)) → (one two : List Token → List Token → T → Type 0) (ends : List Token → Type 0) (tokens : List Token) → P tokens → ((ts r : List Token) (tree : T) → one ts r tree → two ts r tree) → ((ts r : List Token) (tree : T) → P ts → two ts r tree → ends r → one ts r tree) → Passes one two ends tokens tokens
+narrowed_by P alike one two ends tokens holds there back = record {
+  found = λ r tree f. record {
+    read = f.read;
+    split = f.split;
+    spelled = λ others. there _ _ _ (f.spelled others);
+    stopped = f.stopped;
+    ended = f.ended;
+  };
+  refused = λ at r. record {
+    read = r.read;
+    token = r.token;
+    left = r.left;
+    split = r.split;
+    stands = r.stands;
+    none = λ others behind tree d s.
+        r.none others behind tree (back (r.read ++ r.token ∷ others) behind tree (alike_at P alike r.read r.token r.left others (subst P r.split holds)) d s) s;
+    ending = r.ending;
+    finished = r.finished;
+    some = λ others. there _ _ _ (r.some others);
+  };
+}
+
+-- the tokens begin with this one
+abbrev pub BeginsWith : Token → List Token → Type 0
+BeginsWith first tokens = (rest : List Token) × (tokens ≡ first ∷ rest)
+
+begins_alike : (first token : Token) (xs ys : List Token) → BeginsWith first (token ∷ xs) → BeginsWith first (token ∷ ys)
+begins_alike first token xs ys h = let same : token ≡ first = cc h.1 in (ys, ap (λ x. x ∷ ys) same)
+
+-- the same where the first token is known
+pub narrowed : {T : Type 0} (one two : List Token → List Token → T → Type 0) (ends : List Token → Type 0) (tokens : List Token) (first : Token) (rest : List Token) → tokens ≡ first ∷ rest → ((ts r : List Token) (tree : T) → one ts r tree → two ts r tree) → ((ts r behind : List Token) (tree : T) → ts ≡ first ∷ behind → two ts r tree → ends r → one ts r tree) → Passes one two ends tokens tokens
+narrowed one two ends tokens first rest split there back =
+    narrowed_by (BeginsWith first) (begins_alike first) one two ends tokens (rest, split) there (λ ts r tree h d s. back ts r h.0 tree h.1 d s)
+
+-- ---- lists up to a token
+
+module _ {T : Type 0} (k : TokenKind) (spells : List Token → List Token → T → Type 0) (stops : List Token → Type 0) where
+  pub completes_until : (sofar : List T) → Completes (Until k spells sofar)
+  completes_until sofar = record { ending = some_token k ∷ []; finished = sofar; some = λ others. (some_token k, [], stop, refl, sym (append-nil sofar)) }
+
+  pub completes_more : (sofar : List T) → Completes (MoreUntil k spells sofar)
+  completes_more sofar = record { ending = some_token k ∷ []; finished = sofar; some = λ others. (some_token k, [], no_more, refl, sym (append-nil sofar)) }
+
+  pub completes_list : Completes (ListUntil k spells)
+  completes_list = record { ending = some_token k ∷ []; finished = []; some = λ others. (some_token k, nothing, refl) }
+
+-- a list up to a token with which nothing in it begins
+module _ {T : Type 0} (k : TokenKind) (spells : List Token → List Token → T → Type 0) (stops : List Token → Type 0)
+    (unique : (tokens middle middle' : List Token) (x x' : T) → spells tokens middle x → spells tokens middle' x' → stops middle → stops middle' → (middle ≡ middle') × (x ≡ x'))
+    (same_first : (token : Token) (xs ys : List Token) → stops (token ∷ xs) → stops (token ∷ ys))
+    (before : (ts behind : List Token) (xs : List T) (last : Token) → Each spells ts (last ∷ behind) xs → last.kind ≡ k → stops ts) where
+  one_follows : (sofar : List T) → Follows spells stops (λ x. Until k spells (sofar ++ x ∷ [])) stops_anywhere
+  one_follows sofar = record {
+    unique = unique;
+    same_first = same_first;
+    ahead = λ middle rest x tree d s. before middle rest d.1 d.0 d.2 d.3;
+    completes = λ x. completes_until k spells stops (sofar ++ x ∷ []);
+  }
+
+  until_there : (sofar : List T) (ts r : List Token) (xs : List T) → Then spells (λ x. Until k spells (sofar ++ x ∷ [])) ts r xs → Until k spells sofar ts r xs
+  until_there sofar ts r xs d = (d.3.0, d.1 ∷ d.3.1, again d.2 d.3.2, d.3.3, d.3.4 ∙ append_assoc sofar (d.1 ∷ []) d.3.1)
+
+  each_back : (sofar : List T) {ts end r : List Token} {xs ys : List T} {closing : Token} → Each spells ts end ys → end ≡ closing ∷ r → closing.kind ≡ k → xs ≡ sofar ++ ys → BeginsOtherThan k ts → Then spells (λ x. Until k spells (sofar ++ x ∷ [])) ts r xs
+  each_back sofar stop e l is other = absurd (begins_clash _ other e l)
+  each_back sofar {closing = closing} (again {middle = m} {x = x} {xs = zs} one rest) e l is other =
+      let to : List Token → Type 0 = λ z. Each spells m z zs in
+      (m, x, one, (closing, zs, subst to e rest, l, is ∙ sym (append_assoc sofar (x ∷ []) zs)))
+
+  narrow_until : (sofar : List T) (tokens : List Token) → BeginsOtherThan k tokens → Passes (Then spells (λ x. Until k spells (sofar ++ x ∷ []))) (Until k spells sofar) stops_anywhere tokens tokens
+  narrow_until sofar tokens other =
+      narrowed_by (BeginsOtherThan k) (λ token xs ys h. h) (Then spells (λ x. Until k spells (sofar ++ x ∷ []))) (Until k spells sofar) stops_anywhere tokens other
+      (until_there sofar) (λ ts r xs h d s. each_back sofar d.2 refl d.3 d.4 h)
+
+  -- where the closing token comes next, the list has ended
+  pub until_done : (sofar : List T) (tokens : List Token) (first : Token) (rest : List Token) → IsEnded tokens → tokens ≡ first ∷ rest → first.kind ≡ k → (k ≡ kind.End → ⊥) → Found (Until k spells sofar) stops_anywhere tokens rest sofar
+  until_done sofar tokens first rest ended split same other = record {
+    read = first ∷ [];
+    split = split;
+    spelled = λ others. (first, [], stop, same, sym (append-nil sofar));
+    stopped = tt;
+    ended = ended_behind tokens first rest ended split (λ h. other (sym same ∙ h));
+  }
+
+  -- else an element comes
+  pub until_err : (sofar : List T) (tokens : List Token) (e : ParseError) → BeginsOtherThan k tokens → Fails spells stops tokens e → Fails (Until k spells sofar) stops_anywhere tokens e
+  until_err sofar tokens e other h = passed_error _ _ stops_anywhere tokens tokens e (narrow_until sofar tokens other) (then_first (one_follows sofar) tokens e h)
+
+  pub until_more : (sofar : List T) (tokens middle : List Token) (x : T) → BeginsOtherThan k tokens → Found spells stops tokens middle x → Passes (Until k spells (sofar ++ x ∷ [])) (Until k spells sofar) stops_anywhere middle tokens
+  until_more sofar tokens middle x other g = passes_through (then_passes (one_follows sofar) tokens middle x g) (narrow_until sofar tokens other)
+
+-- a list with commas, up to a token with which nothing in it begins
+module _ {T : Type 0} (k : TokenKind) (spells : List Token → List Token → T → Type 0) (stops : List Token → Type 0)
+    (unique : (tokens middle middle' : List Token) (x x' : T) → spells tokens middle x → spells tokens middle' x' → stops middle → stops middle' → (middle ≡ middle') × (x ≡ x'))
+    (same_first : (token : Token) (xs ys : List Token) → stops (token ∷ xs) → stops (token ∷ ys))
+    (never : (ts rest behind : List Token) (x : T) (first : Token) → spells ts rest x → ts ≡ first ∷ behind → first.kind ≡ k → ⊥)
+    (at_end : (token : Token) (ts : List Token) → token.kind ≡ k → stops (token ∷ ts))
+    (at_comma : (token : Token) (ts : List Token) → token.kind ≡ kind.Mark mark.Comma → stops (token ∷ ts))
+    (other : k ≡ kind.Mark mark.Comma → ⊥)
+    (sample : Completes spells) where
+  before_more : {ts end r : List Token} {xs : List T} {last : Token} → MoreOf spells ts end xs → end ≡ last ∷ r → last.kind ≡ k → stops ts
+  before_more {r = r} {last = last} no_more e l = subst stops (sym e) (at_end last r l)
+  before_more (more {comma = comma} {tokens = tokens} c d m) e l = at_comma comma tokens c
+
+  element_follows : (sofar : List T) → Follows spells stops (λ x. MoreUntil k spells (sofar ++ x ∷ [])) stops_anywhere
+  element_follows sofar = record {
+    unique = unique;
+    same_first = same_first;
+    ahead = λ middle rest x tree d s. before_more d.2 refl d.3;
+    completes = λ x. completes_more k spells stops (sofar ++ x ∷ []);
+  }
+
+  pub first_follows : Follows spells stops (λ x. MoreUntil k spells (x ∷ [])) stops_anywhere
+  first_follows = record {
+    unique = unique;
+    same_first = same_first;
+    ahead = λ middle rest x tree d s. before_more d.2 refl d.3;
+    completes = λ x. completes_more k spells stops (x ∷ []);
+  }
+
+  -- a first element, and more
+  list_there : (ts r : List Token) (xs : List T) → Then spells (λ x. MoreUntil k spells (x ∷ [])) ts r xs → ListUntil k spells ts r xs
+  list_there ts r xs d =
+      let as_list : List T → Type 0 = λ z. ListUntil k spells ts r z in
+      let whole : ListUntil k spells ts r (d.1 ∷ d.3.1) = (d.3.0, something d.2 d.3.2, d.3.3) in
+      subst as_list (sym d.3.4) whole
+
+  list_back : {ts end r : List Token} {xs : List T} {closing : Token} → ListOf spells ts end xs → end ≡ closing ∷ r → closing.kind ≡ k → BeginsOtherThan k ts → Then spells (λ x. MoreUntil k spells (x ∷ [])) ts r xs
+  list_back nothing e l other = absurd (begins_clash _ other e l)
+  list_back {closing = closing} (something {middle = m} {x = x} {xs = zs} one rest) e l other =
+      let to : List Token → Type 0 = λ z. MoreOf spells m z zs in
+      (m, x, one, (closing, zs, subst to e rest, l, refl))
+
+  narrow_list : (tokens : List Token) → BeginsOtherThan k tokens → Passes (Then spells (λ x. MoreUntil k spells (x ∷ []))) (ListUntil k spells) stops_anywhere tokens tokens
+  narrow_list tokens other =
+      narrowed_by (BeginsOtherThan k) (λ token xs ys h. h) (Then spells (λ x. MoreUntil k spells (x ∷ []))) (ListUntil k spells) stops_anywhere tokens other
+      list_there (λ ts r xs h d s. list_back d.1 refl d.2 h)
+
+  pub list_nothing : (tokens : List Token) (first : Token) (rest : List Token) → IsEnded tokens → tokens ≡ first ∷ rest → first.kind ≡ k → (k ≡ kind.End → ⊥) → Found (ListUntil k spells) stops_anywhere tokens rest []
+  list_nothing tokens first rest ended split same other = record {
+    read = first ∷ [];
+    split = split;
+    spelled = λ others. (first, nothing, same);
+    stopped = tt;
+    ended = ended_behind tokens first rest ended split (λ h. other (sym same ∙ h));
+  }
+
+  pub list_err : (tokens : List Token) (e : ParseError) → BeginsOtherThan k tokens → Fails spells stops tokens e → Fails (ListUntil k spells) stops_anywhere tokens e
+  list_err tokens e other h = passed_error _ _ stops_anywhere tokens tokens e (narrow_list tokens other) (then_first first_follows tokens e h)
+
+  pub list_begun : (tokens middle : List Token) (x : T) → BeginsOtherThan k tokens → Found spells stops tokens middle x → Passes (MoreUntil k spells (x ∷ [])) (ListUntil k spells) stops_anywhere middle tokens
+  list_begun tokens middle x other g = passes_through (then_passes first_follows tokens middle x g) (narrow_list tokens other)
+
+  -- behind a comma
+  comma_there : (sofar : List T) (ts r : List Token) (xs : List T) → Then (IsToken (kind.Mark mark.Comma)) (λ comma. Then spells (λ x. MoreUntil k spells (sofar ++ x ∷ []))) ts r xs → MoreUntil k spells sofar ts r xs
+  comma_there sofar ts r xs d =
+      let from : List Token → Type 0 = λ z. MoreUntil k spells sofar z r xs in
+      subst from (sym d.2.0) (d.3.3.0, d.3.1 ∷ d.3.3.1, more d.2.1 d.3.2 d.3.3.2, d.3.3.3, d.3.3.4 ∙ append_assoc sofar (d.3.1 ∷ []) d.3.3.1)
+
+  comma_back : (sofar : List T) {ts end r behind : List Token} {xs ys : List T} {closing comma : Token} → MoreOf spells ts end ys → end ≡ closing ∷ r → closing.kind ≡ k → xs ≡ sofar ++ ys → ts ≡ comma ∷ behind → comma.kind ≡ kind.Mark mark.Comma → (k ≡ kind.Mark mark.Comma → ⊥) → Then (IsToken (kind.Mark mark.Comma)) (λ comma. Then spells (λ x. MoreUntil k spells (sofar ++ x ∷ []))) ts r xs
+  comma_back sofar no_more e l is begins c other = absurd (other (cc))
+  comma_back sofar {closing = closing} (more {comma = comma'} {tokens = w} {middle = m} {x = x} {xs = zs} c' one rest) e l is begins c other =
+      let to : List Token → Type 0 = λ z. MoreOf spells m z zs in
+      (w, comma', (refl, c'), (m, x, one, (closing, zs, subst to e rest, l, is ∙ sym (append_assoc sofar (x ∷ []) zs))))
+
+  comma_follows : (sofar : List T) → Follows (IsToken (kind.Mark mark.Comma)) stops_anywhere (λ comma. Then spells (λ x. MoreUntil k spells (sofar ++ x ∷ []))) stops_anywhere
+  comma_follows sofar = token_follows (kind.Mark mark.Comma) stops_anywhere (λ comma. completes_then sample (λ x. completes_more k spells stops (sofar ++ x ∷ [])))
+
+  narrow_comma : (sofar : List T) (tokens : List Token) (comma : Token) (rest : List Token) → tokens ≡ comma ∷ rest → comma.kind ≡ kind.Mark mark.Comma → Passes (Then (IsToken (kind.Mark mark.Comma)) (λ comma. Then spells (λ x. MoreUntil k spells (sofar ++ x ∷ [])))) (MoreUntil k spells sofar) stops_anywhere tokens tokens
+  narrow_comma sofar tokens comma rest split c =
+      narrowed (Then (IsToken (kind.Mark mark.Comma)) (λ comma. Then spells (λ x. MoreUntil k spells (sofar ++ x ∷ [])))) (MoreUntil k spells sofar) stops_anywhere tokens comma rest split
+      (comma_there sofar) (λ ts r behind tree e d s. comma_back sofar d.2 refl d.3 d.4 e c other)
+
+  pub more_err : (sofar : List T) (tokens : List Token) (comma : Token) (rest : List Token) (e : ParseError) → IsEnded tokens → tokens ≡ comma ∷ rest → comma.kind ≡ kind.Mark mark.Comma → Fails spells stops rest e → Fails (MoreUntil k spells sofar) stops_anywhere tokens e
+  more_err sofar tokens comma rest e ended split c h =
+      passed_error _ _ stops_anywhere tokens tokens e (narrow_comma sofar tokens comma rest split c)
+      (then_second (comma_follows sofar) tokens rest comma e (token_found (kind.Mark mark.Comma) tokens comma rest ended split c (λ h. cc)) (then_first (element_follows sofar) rest e h))
+
+  pub more_step : (sofar : List T) (tokens : List Token) (comma : Token) (rest middle : List Token) (x : T) → IsEnded tokens → tokens ≡ comma ∷ rest → comma.kind ≡ kind.Mark mark.Comma → Found spells stops rest middle x → Passes (MoreUntil k spells (sofar ++ x ∷ [])) (MoreUntil k spells sofar) stops_anywhere middle tokens
+  more_step sofar tokens comma rest middle x ended split c g =
+      passes_through (then_passes (element_follows sofar) rest middle x g)
+      (passes_through (then_passes (comma_follows sofar) tokens rest comma (token_found (kind.Mark mark.Comma) tokens comma rest ended split c (λ h. cc))) (narrow_comma sofar tokens comma rest split c))
+
+  -- where no comma comes next, the closing token is to come
+  last_there : (sofar : List T) (ts r : List Token) (xs : List T) → Then (IsToken k) (λ closing. Returns sofar) ts r xs → MoreUntil k spells sofar ts r xs
+  last_there sofar ts r xs d =
+      let from : List Token → Type 0 = λ z. MoreOf spells z (d.1 ∷ r) [] in
+      (d.1, [], subst from (sym (d.2.0 ∙ ap (λ z. d.1 ∷ z) d.3.0)) no_more, d.2.1, d.3.1 ∙ sym (append-nil sofar))
+
+  last_back : (sofar : List T) {ts end r : List Token} {xs ys : List T} {closing : Token} → MoreOf spells ts end ys → end ≡ closing ∷ r → closing.kind ≡ k → xs ≡ sofar ++ ys → BeginsOtherThan (kind.Mark mark.Comma) ts → Then (IsToken k) (λ closing. Returns sofar) ts r xs
+  last_back sofar {r = r} {closing = closing} no_more e l is others = (r, closing, (e, l), (refl, is ∙ append-nil sofar))
+  last_back sofar (more c one rest) e l is others = absurd (others c)
+
+  last_follows : (sofar : List T) → Follows (IsToken k) stops_anywhere (λ closing. Returns sofar) stops_anywhere
+  last_follows sofar = token_follows k stops_anywhere (λ closing. completes_returns sofar)
+
+  narrow_last : (sofar : List T) (tokens : List Token) → BeginsOtherThan (kind.Mark mark.Comma) tokens → Passes (Then (IsToken k) (λ closing. Returns sofar)) (MoreUntil k spells sofar) stops_anywhere tokens tokens
+  narrow_last sofar tokens others =
+      narrowed_by (BeginsOtherThan (kind.Mark mark.Comma)) (λ token xs ys h. h) (Then (IsToken k) (λ closing. Returns sofar)) (MoreUntil k spells sofar) stops_anywhere tokens others
+      (last_there sofar) (λ ts r xs h d s. last_back sofar d.2 refl d.3 d.4 h)
+
+  pub last_err : (sofar : List T) (tokens : List Token) (e : ParseError) → BeginsOtherThan (kind.Mark mark.Comma) tokens → Fails (IsToken k) stops_anywhere tokens e → Fails (MoreUntil k spells sofar) stops_anywhere tokens e
+  last_err sofar tokens e others h = passed_error _ _ stops_anywhere tokens tokens e (narrow_last sofar tokens others) (then_first (last_follows sofar) tokens e h)
+
+  pub last_ok : (sofar : List T) (tokens rest : List Token) (closing : Token) → BeginsOtherThan (kind.Mark mark.Comma) tokens → Found (IsToken k) stops_anywhere tokens rest closing → Found (MoreUntil k spells sofar) stops_anywhere tokens rest sofar
+  last_ok sofar tokens rest closing others g = (narrow_last sofar tokens others).found rest sofar (then_found (last_follows sofar) tokens rest rest closing sofar g (returns_found sofar stops_anywhere rest tt g.ended))
