@@ -1,5 +1,5 @@
 -- A rule that is one rule and then another, lists of rules, and a rule that the first token tells.
-use Rattle.std.proofs.Common.{◌≡◌, ℕ, List, [], ◌∷◌, ◌++◌, Result, Ok, Err, refl, ap, sym, ◌∙◌, subst, append_assoc, append-nil}
+use Rattle.std.proofs.Common.{◌≡◌, ℕ, pos, List, [], ◌∷◌, ◌++◌, Result, Ok, Err, refl, ap, sym, ◌∙◌, subst, append_assoc, append-nil}
 use Rattle.csl_tree.specs.declared.name.Name.{Name}
 use Rattle.csl_tree.specs.declared.token.Token.{Token}
 use Rattle.csl_tree.specs.declared.token.TokenKind.{TokenKind}
@@ -9,10 +9,10 @@ use Rattle.csl_tree.specs.declared.token.Mark.TheVariants as mark
 use Rattle.csl_parser.specs.declared.ParseError.{ParseError}
 use Rattle.csl_grammar.specs.Stops.{IsEnded, BeginsOtherThan}
 use Rattle.csl_grammar.specs.Programs.{Each, stop, again, MoreOf, no_more, more, ListOf, nothing, something}
-use Rattle.csl_parser.specs.Reading.{Found, Refused, Fails, Answers, IsToken, IsNamed, Returns, Then, Until, MoreUntil, ListUntil, stops_anywhere}
+use Rattle.csl_tree.specs.declared.program.ArraySize.{ArraySize}
+use Rattle.csl_parser.specs.Reading.{Found, Refused, Fails, Answers, IsToken, Tok, tok, NameTok, name_tok, SizeTok, size_tok, Ret, ret, Then, seq, Either, this, that, Until, MoreUntil, ListUntil, stops_anywhere}
 use Rattle.csl_grammar.proofs.Unique.{begins_clash}
-use Rattle.csl_parser.proofs.Sequence.{Cut, Sequence, Passes, after_first, second_error, after_second, passes_second, passes_through, passed, passed_error}
-use Rattle.csl_parser.proofs.Rules.{returns_found}
+use Rattle.csl_parser.proofs.Sequence.{Cut, Sequence, Passes, after_first, second_error, after_second, passes_second, passes_through, passes_same, passed, passed_error}
 use Rattle.csl_parser.proofs.Single.{some_token, ended_behind, token_found}
 
 -- some tokens are spelled, whatever follows them
@@ -29,10 +29,13 @@ pub record Follows {A T : Type 0} (first : List Token → List Token → A → T
   pub completes : (part : A) → Completes (second part)
 
 module _ {A T : Type 0} {first : List Token → List Token → A → Type 0} {stops : List Token → Type 0} {second : A → List Token → List Token → T → Type 0} {ends : List Token → Type 0} (f : Follows first stops second ends) where
+  then_cut : {tokens rest : List Token} {tree : T} → Then first second tokens rest tree → ends rest → Cut first stops second tokens rest tree
+  then_cut {rest = rest} {tree = tree} (seq {middle = m} {part = part} one two) s = record { middle = m; part = part; one = one; stopped = f.ahead m rest part tree two s; two = two }
+
   pub then_rule : Sequence first stops second (Then first second) ends
   then_rule = record {
-    join = λ tokens middle rest part tree one two. (middle, part, one, two);
-    cut = λ tokens rest tree d s. record { middle = d.0; part = d.1; one = d.2; stopped = f.ahead d.0 rest d.1 tree d.3 s; two = d.3 };
+    join = λ tokens middle rest part tree one two. seq one two;
+    cut = λ tokens rest tree d s. then_cut d s;
     unique = f.unique;
     same_first = f.same_first;
     ending = λ part. (f.completes part).ending;
@@ -57,17 +60,20 @@ module _ {A T : Type 0} {first : List Token → List Token → A → Type 0} {st
 
 -- ---- what completes
 
-pub completes_returns : {T : Type 0} (known : T) → Completes (Returns known)
-completes_returns known = record { ending = []; finished = known; some = λ others. (refl, refl) }
+pub completes_ret : {T : Type 0} (known : T) → Completes (Ret known)
+completes_ret known = record { ending = []; finished = known; some = λ others. ret }
 
-pub completes_token : (k : TokenKind) → Completes (IsToken k)
-completes_token k = record { ending = some_token k ∷ []; finished = some_token k; some = λ others. (refl, refl) }
+pub completes_tok : (k : TokenKind) → Completes (Tok k)
+completes_tok k = record { ending = some_token k ∷ []; finished = some_token k; some = λ others. tok refl }
 
 pub no_name : Name
 no_name = record { text = []; at = 0 }
 
-pub completes_name : Completes IsNamed
-completes_name = record { ending = some_token (kind.Named no_name) ∷ []; finished = no_name; some = λ others. (some_token (kind.Named no_name), refl, refl) }
+pub completes_name : Completes NameTok
+completes_name = record { ending = some_token (kind.Named no_name) ∷ []; finished = no_name; some = λ others. name_tok refl }
+
+pub completes_size : Completes SizeTok
+completes_size = record { ending = some_token (kind.Number (pos 0)) ∷ []; finished = record { at = 0; number = pos 0 }; some = λ others. size_tok refl }
 
 pub completes_then : {A T : Type 0} {first : List Token → List Token → A → Type 0} {second : A → List Token → List Token → T → Type 0} → Completes first → ((part : A) → Completes (second part)) → Completes (Then first second)
 completes_then {first = first} {second = second} one two =
@@ -77,25 +83,70 @@ completes_then {first = first} {second = second} one two =
       finished = rest.finished;
       some = λ others.
           let along : List Token → Type 0 = λ x. Then first second x others rest.finished in
-          subst along (sym (append_assoc one.ending rest.ending others)) (rest.ending ++ others, one.finished, one.some (rest.ending ++ others), rest.some others);
+          subst along (sym (append_assoc one.ending rest.ending others)) (seq (one.some (rest.ending ++ others)) (rest.some others));
     }
+
+pub completes_this : {T : Type 0} {one two : List Token → List Token → T → Type 0} → Completes one → Completes (Either one two)
+completes_this c = record { ending = c.ending; finished = c.finished; some = λ others. this (c.some others) }
 
 -- ---- tokens
 
-pub token_follows : {T : Type 0} (k : TokenKind) {second : Token → List Token → List Token → T → Type 0} (ends : List Token → Type 0) → ((token : Token) → Completes (second token)) → Follows (IsToken k) stops_anywhere second ends
-token_follows k ends completes = record {
-  unique = λ tokens middle middle' t t' d d' s s'. ((cc), (cc));
+same_tok : {k : TokenKind} {tokens middle middle' : List Token} {t t' : Token} → Tok k tokens middle t → Tok k tokens middle' t' → (middle ≡ middle') × (t ≡ t')
+same_tok (tok a) (tok b) = (refl, refl)
+
+same_name : {ts ts' middle middle' : List Token} {n n' : Name} → NameTok ts middle n → NameTok ts' middle' n' → ts ≡ ts' → (middle ≡ middle') × (n ≡ n')
+same_name (name_tok a) (name_tok b) e = ((cc), (cc))
+
+same_size : {ts ts' middle middle' : List Token} {n n' : ArraySize} → SizeTok ts middle n → SizeTok ts' middle' n' → ts ≡ ts' → (middle ≡ middle') × (n ≡ n')
+same_size (size_tok a) (size_tok b) e = ((cc), (cc))
+
+pub tok_follows : {T : Type 0} (k : TokenKind) {second : Token → List Token → List Token → T → Type 0} (ends : List Token → Type 0) → ((token : Token) → Completes (second token)) → Follows (Tok k) stops_anywhere second ends
+tok_follows k ends completes = record {
+  unique = λ tokens middle middle' t t' d d' s s'. same_tok d d';
   same_first = λ token xs ys s. tt;
   ahead = λ middle rest part tree d s. tt;
   completes = completes;
 }
 
-pub name_follows : {T : Type 0} {second : Name → List Token → List Token → T → Type 0} (ends : List Token → Type 0) → ((name : Name) → Completes (second name)) → Follows IsNamed stops_anywhere second ends
+pub name_follows : {T : Type 0} {second : Name → List Token → List Token → T → Type 0} (ends : List Token → Type 0) → ((name : Name) → Completes (second name)) → Follows NameTok stops_anywhere second ends
 name_follows ends completes = record {
-  unique = λ tokens middle middle' t t' d d' s s'. ((cc), (cc));
+  unique = λ tokens middle middle' t t' d d' s s'. same_name d d' refl;
   same_first = λ token xs ys s. tt;
   ahead = λ middle rest part tree d s. tt;
   completes = completes;
+}
+
+pub size_follows : {T : Type 0} {second : ArraySize → List Token → List Token → T → Type 0} (ends : List Token → Type 0) → ((size : ArraySize) → Completes (second size)) → Follows SizeTok stops_anywhere second ends
+size_follows ends completes = record {
+  unique = λ tokens middle middle' t t' d d' s s'. same_size d d' refl;
+  same_first = λ token xs ys s. tt;
+  ahead = λ middle rest part tree d s. tt;
+  completes = completes;
+}
+
+tok_is : {k : TokenKind} {tokens rest : List Token} {t : Token} → Tok k tokens rest t → IsToken k tokens rest t
+tok_is (tok h) = (refl, h)
+
+is_tok : {k : TokenKind} {tokens rest : List Token} {t : Token} → IsToken k tokens rest t → Tok k tokens rest t
+is_tok {k = k} {rest = rest} {t = t} h = let at : List Token → Type 0 = λ x. Tok k x rest t in subst at (sym h.0) (tok h.1)
+
+tokens_same : (k : TokenKind) (tokens : List Token) → Passes (IsToken k) (Tok k) stops_anywhere tokens tokens
+tokens_same k tokens = passes_same (IsToken k) (Tok k) stops_anywhere tokens (record { there = λ ts r t h. is_tok h; back = λ ts r t h s. tok_is h })
+
+-- what `expect` answers
+pub tok_found : {k : TokenKind} {tokens rest : List Token} {t : Token} → Found (IsToken k) stops_anywhere tokens rest t → Found (Tok k) stops_anywhere tokens rest t
+tok_found {k = k} {tokens = tokens} {rest = rest} {t = t} f = (tokens_same k tokens).found rest t f
+
+pub tok_err : (k : TokenKind) (tokens : List Token) (e : ParseError) → Fails (IsToken k) stops_anywhere tokens e → Fails (Tok k) stops_anywhere tokens e
+tok_err k tokens e h = passed_error _ _ stops_anywhere tokens tokens e (tokens_same k tokens) h
+
+pub ret_found : {T : Type 0} (tree : T) (stops : List Token → Type 0) (tokens : List Token) → stops tokens → IsEnded tokens → Found (Ret tree) stops tokens tokens tree
+ret_found tree stops tokens s ended = record {
+  read = [];
+  split = refl;
+  spelled = λ others. ret;
+  stopped = s;
+  ended = ended;
 }
 
 -- ---- a rule that the first token tells
@@ -166,13 +217,13 @@ module _ {T : Type 0} (k : TokenKind) (spells : List Token → List Token → T 
   }
 
   until_there : (sofar : List T) (ts r : List Token) (xs : List T) → Then spells (λ x. Until k spells (sofar ++ x ∷ [])) ts r xs → Until k spells sofar ts r xs
-  until_there sofar ts r xs d = (d.3.0, d.1 ∷ d.3.1, again d.2 d.3.2, d.3.3, d.3.4 ∙ append_assoc sofar (d.1 ∷ []) d.3.1)
+  until_there sofar ts r xs (seq {part = x} one d) = (d.0, x ∷ d.1, again one d.2, d.3, d.4 ∙ append_assoc sofar (x ∷ []) d.1)
 
   each_back : (sofar : List T) {ts end r : List Token} {xs ys : List T} {closing : Token} → Each spells ts end ys → end ≡ closing ∷ r → closing.kind ≡ k → xs ≡ sofar ++ ys → BeginsOtherThan k ts → Then spells (λ x. Until k spells (sofar ++ x ∷ [])) ts r xs
   each_back sofar stop e l is other = absurd (begins_clash _ other e l)
   each_back sofar {closing = closing} (again {middle = m} {x = x} {xs = zs} one rest) e l is other =
       let to : List Token → Type 0 = λ z. Each spells m z zs in
-      (m, x, one, (closing, zs, subst to e rest, l, is ∙ sym (append_assoc sofar (x ∷ []) zs)))
+      seq one (closing, zs, subst to e rest, l, is ∙ sym (append_assoc sofar (x ∷ []) zs))
 
   narrow_until : (sofar : List T) (tokens : List Token) → BeginsOtherThan k tokens → Passes (Then spells (λ x. Until k spells (sofar ++ x ∷ []))) (Until k spells sofar) stops_anywhere tokens tokens
   narrow_until sofar tokens other =
@@ -227,16 +278,16 @@ module _ {T : Type 0} (k : TokenKind) (spells : List Token → List Token → T 
 
   -- a first element, and more
   list_there : (ts r : List Token) (xs : List T) → Then spells (λ x. MoreUntil k spells (x ∷ [])) ts r xs → ListUntil k spells ts r xs
-  list_there ts r xs d =
+  list_there ts r xs (seq {part = x} one d) =
       let as_list : List T → Type 0 = λ z. ListUntil k spells ts r z in
-      let whole : ListUntil k spells ts r (d.1 ∷ d.3.1) = (d.3.0, something d.2 d.3.2, d.3.3) in
-      subst as_list (sym d.3.4) whole
+      let whole : ListUntil k spells ts r (x ∷ d.1) = (d.0, something one d.2, d.3) in
+      subst as_list (sym d.4) whole
 
   list_back : {ts end r : List Token} {xs : List T} {closing : Token} → ListOf spells ts end xs → end ≡ closing ∷ r → closing.kind ≡ k → BeginsOtherThan k ts → Then spells (λ x. MoreUntil k spells (x ∷ [])) ts r xs
   list_back nothing e l other = absurd (begins_clash _ other e l)
   list_back {closing = closing} (something {middle = m} {x = x} {xs = zs} one rest) e l other =
       let to : List Token → Type 0 = λ z. MoreOf spells m z zs in
-      (m, x, one, (closing, zs, subst to e rest, l, refl))
+      seq one (closing, zs, subst to e rest, l, refl)
 
   narrow_list : (tokens : List Token) → BeginsOtherThan k tokens → Passes (Then spells (λ x. MoreUntil k spells (x ∷ []))) (ListUntil k spells) stops_anywhere tokens tokens
   narrow_list tokens other =
@@ -259,55 +310,54 @@ module _ {T : Type 0} (k : TokenKind) (spells : List Token → List Token → T 
   list_begun tokens middle x other g = passes_through (then_passes first_follows tokens middle x g) (narrow_list tokens other)
 
   -- behind a comma
-  comma_there : (sofar : List T) (ts r : List Token) (xs : List T) → Then (IsToken (kind.Mark mark.Comma)) (λ comma. Then spells (λ x. MoreUntil k spells (sofar ++ x ∷ []))) ts r xs → MoreUntil k spells sofar ts r xs
-  comma_there sofar ts r xs d =
-      let from : List Token → Type 0 = λ z. MoreUntil k spells sofar z r xs in
-      subst from (sym d.2.0) (d.3.3.0, d.3.1 ∷ d.3.3.1, more d.2.1 d.3.2 d.3.3.2, d.3.3.3, d.3.3.4 ∙ append_assoc sofar (d.3.1 ∷ []) d.3.3.1)
+  comma_there : (sofar : List T) (ts r : List Token) (xs : List T) → Then (Tok (kind.Mark mark.Comma)) (λ comma. Then spells (λ x. MoreUntil k spells (sofar ++ x ∷ []))) ts r xs → MoreUntil k spells sofar ts r xs
+  comma_there sofar ts r xs (seq (tok c) (seq {part = x} one d)) = (d.0, x ∷ d.1, more c one d.2, d.3, d.4 ∙ append_assoc sofar (x ∷ []) d.1)
 
-  comma_back : (sofar : List T) {ts end r behind : List Token} {xs ys : List T} {closing comma : Token} → MoreOf spells ts end ys → end ≡ closing ∷ r → closing.kind ≡ k → xs ≡ sofar ++ ys → ts ≡ comma ∷ behind → comma.kind ≡ kind.Mark mark.Comma → (k ≡ kind.Mark mark.Comma → ⊥) → Then (IsToken (kind.Mark mark.Comma)) (λ comma. Then spells (λ x. MoreUntil k spells (sofar ++ x ∷ []))) ts r xs
+  comma_back : (sofar : List T) {ts end r behind : List Token} {xs ys : List T} {closing comma : Token} → MoreOf spells ts end ys → end ≡ closing ∷ r → closing.kind ≡ k → xs ≡ sofar ++ ys → ts ≡ comma ∷ behind → comma.kind ≡ kind.Mark mark.Comma → (k ≡ kind.Mark mark.Comma → ⊥) → Then (Tok (kind.Mark mark.Comma)) (λ comma. Then spells (λ x. MoreUntil k spells (sofar ++ x ∷ []))) ts r xs
   comma_back sofar no_more e l is begins c other = absurd (other (cc))
   comma_back sofar {closing = closing} (more {comma = comma'} {tokens = w} {middle = m} {x = x} {xs = zs} c' one rest) e l is begins c other =
       let to : List Token → Type 0 = λ z. MoreOf spells m z zs in
-      (w, comma', (refl, c'), (m, x, one, (closing, zs, subst to e rest, l, is ∙ sym (append_assoc sofar (x ∷ []) zs))))
+      seq (tok c') (seq one (closing, zs, subst to e rest, l, is ∙ sym (append_assoc sofar (x ∷ []) zs)))
 
-  comma_follows : (sofar : List T) → Follows (IsToken (kind.Mark mark.Comma)) stops_anywhere (λ comma. Then spells (λ x. MoreUntil k spells (sofar ++ x ∷ []))) stops_anywhere
-  comma_follows sofar = token_follows (kind.Mark mark.Comma) stops_anywhere (λ comma. completes_then sample (λ x. completes_more k spells stops (sofar ++ x ∷ [])))
+  comma_follows : (sofar : List T) → Follows (Tok (kind.Mark mark.Comma)) stops_anywhere (λ comma. Then spells (λ x. MoreUntil k spells (sofar ++ x ∷ []))) stops_anywhere
+  comma_follows sofar = tok_follows (kind.Mark mark.Comma) stops_anywhere (λ comma. completes_then sample (λ x. completes_more k spells stops (sofar ++ x ∷ [])))
 
-  narrow_comma : (sofar : List T) (tokens : List Token) (comma : Token) (rest : List Token) → tokens ≡ comma ∷ rest → comma.kind ≡ kind.Mark mark.Comma → Passes (Then (IsToken (kind.Mark mark.Comma)) (λ comma. Then spells (λ x. MoreUntil k spells (sofar ++ x ∷ [])))) (MoreUntil k spells sofar) stops_anywhere tokens tokens
+  narrow_comma : (sofar : List T) (tokens : List Token) (comma : Token) (rest : List Token) → tokens ≡ comma ∷ rest → comma.kind ≡ kind.Mark mark.Comma → Passes (Then (Tok (kind.Mark mark.Comma)) (λ comma. Then spells (λ x. MoreUntil k spells (sofar ++ x ∷ [])))) (MoreUntil k spells sofar) stops_anywhere tokens tokens
   narrow_comma sofar tokens comma rest split c =
-      narrowed (Then (IsToken (kind.Mark mark.Comma)) (λ comma. Then spells (λ x. MoreUntil k spells (sofar ++ x ∷ [])))) (MoreUntil k spells sofar) stops_anywhere tokens comma rest split
+      narrowed (Then (Tok (kind.Mark mark.Comma)) (λ comma. Then spells (λ x. MoreUntil k spells (sofar ++ x ∷ [])))) (MoreUntil k spells sofar) stops_anywhere tokens comma rest split
       (comma_there sofar) (λ ts r behind tree e d s. comma_back sofar d.2 refl d.3 d.4 e c other)
 
   pub more_err : (sofar : List T) (tokens : List Token) (comma : Token) (rest : List Token) (e : ParseError) → IsEnded tokens → tokens ≡ comma ∷ rest → comma.kind ≡ kind.Mark mark.Comma → Fails spells stops rest e → Fails (MoreUntil k spells sofar) stops_anywhere tokens e
   more_err sofar tokens comma rest e ended split c h =
       passed_error _ _ stops_anywhere tokens tokens e (narrow_comma sofar tokens comma rest split c)
-      (then_second (comma_follows sofar) tokens rest comma e (token_found (kind.Mark mark.Comma) tokens comma rest ended split c (λ h. cc)) (then_first (element_follows sofar) rest e h))
+      (then_second (comma_follows sofar) tokens rest comma e (tok_found (token_found (kind.Mark mark.Comma) tokens comma rest ended split c (λ h. cc))) (then_first (element_follows sofar) rest e h))
 
   pub more_step : (sofar : List T) (tokens : List Token) (comma : Token) (rest middle : List Token) (x : T) → IsEnded tokens → tokens ≡ comma ∷ rest → comma.kind ≡ kind.Mark mark.Comma → Found spells stops rest middle x → Passes (MoreUntil k spells (sofar ++ x ∷ [])) (MoreUntil k spells sofar) stops_anywhere middle tokens
   more_step sofar tokens comma rest middle x ended split c g =
       passes_through (then_passes (element_follows sofar) rest middle x g)
-      (passes_through (then_passes (comma_follows sofar) tokens rest comma (token_found (kind.Mark mark.Comma) tokens comma rest ended split c (λ h. cc))) (narrow_comma sofar tokens comma rest split c))
+      (passes_through (then_passes (comma_follows sofar) tokens rest comma (tok_found (token_found (kind.Mark mark.Comma) tokens comma rest ended split c (λ h. cc)))) (narrow_comma sofar tokens comma rest split c))
 
   -- where no comma comes next, the closing token is to come
-  last_there : (sofar : List T) (ts r : List Token) (xs : List T) → Then (IsToken k) (λ closing. Returns sofar) ts r xs → MoreUntil k spells sofar ts r xs
-  last_there sofar ts r xs d =
-      let from : List Token → Type 0 = λ z. MoreOf spells z (d.1 ∷ r) [] in
-      (d.1, [], subst from (sym (d.2.0 ∙ ap (λ z. d.1 ∷ z) d.3.0)) no_more, d.2.1, d.3.1 ∙ sym (append-nil sofar))
+  last_there : (sofar : List T) (ts r : List Token) (xs : List T) → Then (Tok k) (λ closing. Ret sofar) ts r xs → MoreUntil k spells sofar ts r xs
+  last_there sofar ts r xs (seq {part = closing} (tok c) ret) = (closing, [], no_more, c, sym (append-nil sofar))
 
-  last_back : (sofar : List T) {ts end r : List Token} {xs ys : List T} {closing : Token} → MoreOf spells ts end ys → end ≡ closing ∷ r → closing.kind ≡ k → xs ≡ sofar ++ ys → BeginsOtherThan (kind.Mark mark.Comma) ts → Then (IsToken k) (λ closing. Returns sofar) ts r xs
-  last_back sofar {r = r} {closing = closing} no_more e l is others = (r, closing, (e, l), (refl, is ∙ append-nil sofar))
+  last_back : (sofar : List T) {ts end r : List Token} {xs ys : List T} {closing : Token} → MoreOf spells ts end ys → end ≡ closing ∷ r → closing.kind ≡ k → xs ≡ sofar ++ ys → BeginsOtherThan (kind.Mark mark.Comma) ts → Then (Tok k) (λ closing. Ret sofar) ts r xs
+  last_back sofar {ts = ts} {r = r} {xs = xs} {closing = closing} no_more e l is others =
+      let from : List Token → Type 0 = λ z. Then (Tok k) (λ closing. Ret sofar) z r xs in
+      let at : List T → Type 0 = λ z. Then (Tok k) (λ closing. Ret sofar) (closing ∷ r) r z in
+      subst from (sym e) (subst at (sym (is ∙ append-nil sofar)) (seq (tok l) ret))
   last_back sofar (more c one rest) e l is others = absurd (others c)
 
-  last_follows : (sofar : List T) → Follows (IsToken k) stops_anywhere (λ closing. Returns sofar) stops_anywhere
-  last_follows sofar = token_follows k stops_anywhere (λ closing. completes_returns sofar)
+  last_follows : (sofar : List T) → Follows (Tok k) stops_anywhere (λ closing. Ret sofar) stops_anywhere
+  last_follows sofar = tok_follows k stops_anywhere (λ closing. completes_ret sofar)
 
-  narrow_last : (sofar : List T) (tokens : List Token) → BeginsOtherThan (kind.Mark mark.Comma) tokens → Passes (Then (IsToken k) (λ closing. Returns sofar)) (MoreUntil k spells sofar) stops_anywhere tokens tokens
+  narrow_last : (sofar : List T) (tokens : List Token) → BeginsOtherThan (kind.Mark mark.Comma) tokens → Passes (Then (Tok k) (λ closing. Ret sofar)) (MoreUntil k spells sofar) stops_anywhere tokens tokens
   narrow_last sofar tokens others =
-      narrowed_by (BeginsOtherThan (kind.Mark mark.Comma)) (λ token xs ys h. h) (Then (IsToken k) (λ closing. Returns sofar)) (MoreUntil k spells sofar) stops_anywhere tokens others
+      narrowed_by (BeginsOtherThan (kind.Mark mark.Comma)) (λ token xs ys h. h) (Then (Tok k) (λ closing. Ret sofar)) (MoreUntil k spells sofar) stops_anywhere tokens others
       (last_there sofar) (λ ts r xs h d s. last_back sofar d.2 refl d.3 d.4 h)
 
   pub last_err : (sofar : List T) (tokens : List Token) (e : ParseError) → BeginsOtherThan (kind.Mark mark.Comma) tokens → Fails (IsToken k) stops_anywhere tokens e → Fails (MoreUntil k spells sofar) stops_anywhere tokens e
-  last_err sofar tokens e others h = passed_error _ _ stops_anywhere tokens tokens e (narrow_last sofar tokens others) (then_first (last_follows sofar) tokens e h)
+  last_err sofar tokens e others h = passed_error _ _ stops_anywhere tokens tokens e (narrow_last sofar tokens others) (then_first (last_follows sofar) tokens e (tok_err k tokens e h))
 
   pub last_ok : (sofar : List T) (tokens rest : List Token) (closing : Token) → BeginsOtherThan (kind.Mark mark.Comma) tokens → Found (IsToken k) stops_anywhere tokens rest closing → Found (MoreUntil k spells sofar) stops_anywhere tokens rest sofar
-  last_ok sofar tokens rest closing others g = (narrow_last sofar tokens others).found rest sofar (then_found (last_follows sofar) tokens rest rest closing sofar g (returns_found sofar stops_anywhere rest tt g.ended))
+  last_ok sofar tokens rest closing others g = (narrow_last sofar tokens others).found rest sofar (then_found (last_follows sofar) tokens rest rest closing sofar (tok_found g) (ret_found sofar stops_anywhere rest tt g.ended))

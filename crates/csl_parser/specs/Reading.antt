@@ -16,6 +16,7 @@ use Rattle.csl_parser.specs.declared.ParseError.TheVariants as error
 use Rattle.csl_tree.specs.declared.program.Expr.{Expr}
 use Rattle.csl_grammar.specs.Stops.{IsEnded, BeginsOtherThan, Stops, operator_of}
 use Rattle.csl_tree.specs.declared.name.Name.{Name}
+use Rattle.csl_tree.specs.declared.program.ArraySize.{ArraySize}
 use Rattle.csl_grammar.specs.Programs.{Each, MoreOf, ListOf}
 use Rattle.csl_grammar.specs.Expressions.{level_of, mark_of, SpellsArguments, SpellsMore}
 
@@ -114,13 +115,30 @@ SpellsClosed tokens rest args = (closing : Token) × SpellsArguments tokens (clo
 abbrev pub SpellsMoreClosed : List Expr → List Token → List Token → List Expr → Type 0
 SpellsMoreClosed sofar tokens rest args = (closing : Token) × (es : List Expr) × SpellsMore tokens (closing ∷ rest) es × (closing.kind ≡ kind.Mark mark.CloseParen) × (args ≡ sofar ++ es)
 
--- one rule and then another, which may look at the first's tree
-abbrev pub Then : {A T : Type 0} → (List Token → List Token → A → Type 0) → (A → List Token → List Token → T → Type 0) → List Token → List Token → T → Type 0
-Then {A} first second tokens rest tree = (middle : List Token) × (part : A) × first tokens middle part × second part middle rest tree
+-- one token of that kind
+pub data Tok (k : TokenKind) : List Token → List Token → Token → Type 0 where
+  tok : {token : Token} {rest : List Token} → token.kind ≡ k → Tok k (token ∷ rest) rest token
 
 -- one token that is a name
-abbrev pub IsNamed : List Token → List Token → Name → Type 0
-IsNamed tokens rest name = (token : Token) × (tokens ≡ token ∷ rest) × (token.kind ≡ kind.Named name)
+pub data NameTok : List Token → List Token → Name → Type 0 where
+  name_tok : {token : Token} {rest : List Token} {name : Name} → token.kind ≡ kind.Named name → NameTok (token ∷ rest) rest name
+
+-- one token that is a number, with its place
+pub data SizeTok : List Token → List Token → ArraySize → Type 0 where
+  size_tok : {token : Token} {rest : List Token} {n : ℤ} → token.kind ≡ kind.Number n → SizeTok (token ∷ rest) rest (record { at = token.at; number = n })
+
+-- no token, and a tree that is known
+pub data Ret {T : Type 0} (known : T) : List Token → List Token → T → Type 0 where
+  ret : {rest : List Token} → Ret known rest rest known
+
+-- one rule and then another, which may look at the first's tree
+pub data Then {A T : Type 0} (first : List Token → List Token → A → Type 0) (second : A → List Token → List Token → T → Type 0) : List Token → List Token → T → Type 0 where
+  seq : {tokens middle rest : List Token} {part : A} {tree : T} → first tokens middle part → second part middle rest tree → Then first second tokens rest tree
+
+-- one rule or another
+pub data Either {T : Type 0} (one two : List Token → List Token → T → Type 0) : List Token → List Token → T → Type 0 where
+  this : {tokens rest : List Token} {tree : T} → one tokens rest tree → Either one two tokens rest tree
+  that : {tokens rest : List Token} {tree : T} → two tokens rest tree → Either one two tokens rest tree
 
 -- the rest of a list whose front was read, and the token of that kind behind it
 abbrev pub Until : {T : Type 0} → TokenKind → (List Token → List Token → T → Type 0) → List T → List Token → List Token → List T → Type 0
