@@ -1,5 +1,5 @@
 -- A rule that is one rule and then another, lists of rules, and a rule that the first token tells.
-use Rattle.std.proofs.Common.{◌≡◌, ℕ, pos, List, [], ◌∷◌, ◌++◌, Result, Ok, Err, refl, ap, sym, ◌∙◌, subst, append_assoc, append-nil}
+use Rattle.std.proofs.Common.{◌≡◌, ℕ, ℤ, pos, Some, None, List, [], ◌∷◌, ◌++◌, Result, Ok, Err, refl, ap, sym, ◌∙◌, subst, append_assoc, append-nil}
 use Rattle.csl_tree.specs.declared.name.Name.{Name}
 use Rattle.csl_tree.specs.declared.token.Token.{Token}
 use Rattle.csl_tree.specs.declared.token.TokenKind.{TokenKind}
@@ -10,7 +10,7 @@ use Rattle.csl_parser.specs.declared.ParseError.{ParseError}
 use Rattle.csl_grammar.specs.Stops.{IsEnded, BeginsOtherThan}
 use Rattle.csl_grammar.specs.Programs.{Each, stop, again, MoreOf, no_more, more, ListOf, nothing, something}
 use Rattle.csl_tree.specs.declared.program.ArraySize.{ArraySize}
-use Rattle.csl_parser.specs.Reading.{Found, Refused, Fails, Answers, IsToken, Tok, tok, NameTok, name_tok, SizeTok, size_tok, Ret, ret, Then, seq, Either, this, that, Until, MoreUntil, ListUntil, stops_anywhere}
+use Rattle.csl_parser.specs.Reading.{Found, Refused, Fails, Answers, IsToken, Tok, tok, NameTok, name_tok, SizeTok, size_tok, Ret, ret, Then, seq, Either, this, that, Until, MoreUntil, ListUntil, stops_anywhere, number_of}
 use Rattle.csl_grammar.proofs.Unique.{begins_clash}
 use Rattle.csl_parser.proofs.Sequence.{Cut, Sequence, Passes, after_first, second_error, after_second, passes_second, passes_through, passes_same, passed, passed_error}
 use Rattle.csl_parser.proofs.Single.{some_token, ended_behind, token_found}
@@ -149,6 +149,64 @@ ret_found tree stops tokens s ended = record {
   ended = ended;
 }
 
+pub name_found : (tokens : List Token) (first : Token) (rest : List Token) (name : Name) → IsEnded tokens → tokens ≡ first ∷ rest → first.kind ≡ kind.Named name → Found NameTok stops_anywhere tokens rest name
+name_found tokens first rest name ended split same = record {
+  read = first ∷ [];
+  split = split;
+  spelled = λ others. name_tok same;
+  stopped = tt;
+  ended = ended_behind tokens first rest ended split (λ h. cc);
+}
+
+no_name_here : {ts rest others : List Token} {first : Token} {name : Name} → NameTok ts rest name → ts ≡ first ∷ others → ((n : Name) → first.kind ≡ kind.Named n → ⊥) → ⊥
+no_name_here (name_tok {name = n} same) e never = never n (cc)
+
+pub name_refused : (tokens : List Token) (first : Token) (rest : List Token) → tokens ≡ first ∷ rest → ((n : Name) → first.kind ≡ kind.Named n → ⊥) → Refused NameTok stops_anywhere tokens first.at
+name_refused tokens first rest split never = record {
+  read = [];
+  token = first;
+  left = rest;
+  split = split;
+  stands = refl;
+  none = λ others behind tree d s. no_name_here d refl never;
+  ending = completes_name.ending;
+  finished = completes_name.finished;
+  some = completes_name.some;
+}
+
+number_kind : (k : TokenKind) (n : ℤ) → number_of k ≡ Some n → k ≡ kind.Number n
+number_kind (kind.Word w) n e = cc
+number_kind (kind.Named x) n e = cc
+number_kind (kind.Number m) n e = cc
+number_kind (kind.Text t) n e = cc
+number_kind (kind.Mark m) n e = cc
+number_kind kind.End n e = cc
+
+pub size_found : (tokens : List Token) (first : Token) (rest : List Token) (n : ℤ) → IsEnded tokens → tokens ≡ first ∷ rest → number_of first.kind ≡ Some n → Found SizeTok stops_anywhere tokens rest (record { at = first.at; number = n })
+size_found tokens first rest n ended split is = let same : first.kind ≡ kind.Number n = number_kind first.kind n is in record {
+  read = first ∷ [];
+  split = split;
+  spelled = λ others. size_tok same;
+  stopped = tt;
+  ended = ended_behind tokens first rest ended split (λ h. cc);
+}
+
+no_size_here : {ts rest others : List Token} {first : Token} {size : ArraySize} → SizeTok ts rest size → ts ≡ first ∷ others → number_of first.kind ≡ None → ⊥
+no_size_here (size_tok {n = n} same) e none = let at : number_of (kind.Number n) ≡ None = cc in cc
+
+pub size_refused : (tokens : List Token) (first : Token) (rest : List Token) → tokens ≡ first ∷ rest → number_of first.kind ≡ None → Refused SizeTok stops_anywhere tokens first.at
+size_refused tokens first rest split none = record {
+  read = [];
+  token = first;
+  left = rest;
+  split = split;
+  stands = refl;
+  none = λ others behind tree d s. no_size_here d refl none;
+  ending = completes_size.ending;
+  finished = completes_size.finished;
+  some = completes_size.some;
+}
+
 -- ---- a rule that the first token tells
 
 alike_at : (P : List Token → Type 0) → ((token : Token) (xs ys : List Token) → P (token ∷ xs) → P (token ∷ ys)) → (read : List Token) (token : Token) (left others : List Token) → P (read ++ token ∷ left) → P (read ++ token ∷ others)
@@ -190,6 +248,33 @@ begins_alike first token xs ys h = let same : token ≡ first = cc h.1 in (ys, a
 pub narrowed : {T : Type 0} (one two : List Token → List Token → T → Type 0) (ends : List Token → Type 0) (tokens : List Token) (first : Token) (rest : List Token) → tokens ≡ first ∷ rest → ((ts r : List Token) (tree : T) → one ts r tree → two ts r tree) → ((ts r behind : List Token) (tree : T) → ts ≡ first ∷ behind → two ts r tree → ends r → one ts r tree) → Passes one two ends tokens tokens
 narrowed one two ends tokens first rest split there back =
     narrowed_by (BeginsWith first) (begins_alike first) one two ends tokens (rest, split) there (λ ts r tree h d s. back ts r h.0 tree h.1 d s)
+
+-- ---- a choice that the first token tells
+
+this_back : {T : Type 0} {one : List Token → List Token → T → Type 0} {k : TokenKind} {second : Token → List Token → List Token → T → Type 0} {ts r : List Token} {tree : T} → BeginsOtherThan k ts → Either one (Then (Tok k) second) ts r tree → one ts r tree
+this_back other (this d) = d
+this_back other (that (seq (tok h) d)) = absurd (other h)
+
+that_back : {T : Type 0} {two : List Token → List Token → T → Type 0} {k : TokenKind} {second : Token → List Token → List Token → T → Type 0} {ts r : List Token} {tree : T} → BeginsOtherThan k ts → Either (Then (Tok k) second) two ts r tree → two ts r tree
+that_back other (this (seq (tok h) d)) = absurd (other h)
+that_back other (that d) = d
+
+-- where the second rule's first token does not come next
+pub passes_this : {T : Type 0} (one : List Token → List Token → T → Type 0) (k : TokenKind) (second : Token → List Token → List Token → T → Type 0) (ends : List Token → Type 0) (tokens : List Token) → BeginsOtherThan k tokens → Passes one (Either one (Then (Tok k) second)) ends tokens tokens
+passes_this one k second ends tokens other =
+    narrowed_by (BeginsOtherThan k) (λ token xs ys h. h) one (Either one (Then (Tok k) second)) ends tokens other (λ ts r tree d. this d) (λ ts r tree h d s. this_back h d)
+
+-- where the first rule's first token does not come next
+pub passes_that : {T : Type 0} (k : TokenKind) (second : Token → List Token → List Token → T → Type 0) (two : List Token → List Token → T → Type 0) (ends : List Token → Type 0) (tokens : List Token) → BeginsOtherThan k tokens → Passes two (Either (Then (Tok k) second) two) ends tokens tokens
+passes_that k second two ends tokens other =
+    narrowed_by (BeginsOtherThan k) (λ token xs ys h. h) two (Either (Then (Tok k) second) two) ends tokens other (λ ts r tree d. that d) (λ ts r tree h d s. that_back h d)
+
+-- the tokens begin with no token of that kind
+pub begins_other : (k : TokenKind) (tokens : List Token) (first : Token) (rest : List Token) → tokens ≡ first ∷ rest → (first.kind ≡ k → ⊥) → BeginsOtherThan k tokens
+begins_other k tokens first rest split other = subst (BeginsOtherThan k) (sym split) (at_front first rest other)
+  where
+    at_front : (first : Token) (rest : List Token) → (first.kind ≡ k → ⊥) → BeginsOtherThan k (first ∷ rest)
+    at_front first rest other = other
 
 -- ---- lists up to a token
 

@@ -6,13 +6,13 @@ ghost use Rattle.csl_tree.specs.declared.token.Mark.TheVariants as mark;
 ghost use Rattle.csl_tree.specs.declared.token.Token.{Token};
 ghost use Rattle.csl_grammar.specs.Expressions.{level_of};
 ghost use Rattle.csl_grammar.specs.Stops.{IsEnded, operator_of, BeginsOtherThan};
-ghost use Rattle.csl_parser.specs.Reading.{Answers, IsToken, stops_anywhere, at_mark, prefix_of, number_of, truth_of};
+ghost use Rattle.csl_parser.specs.Reading.{Answers, IsToken, NameTok, SizeTok, stops_anywhere, at_mark, prefix_of, number_of, truth_of};
 
 use crate::ParseError;
 use cal_base::NoMemory;
 use csl_tree::name::{Name, Text};
 use csl_tree::token::{Keyword, Mark, Token, TokenKind};
-use csl_tree::program::{BinaryOp, UnaryOp};
+use csl_tree::program::{ArraySize, BinaryOp, UnaryOp};
 use std::alloc::Global;
 
 /// The first token, and those behind it.
@@ -151,4 +151,60 @@ pub fn copy_of(alloc: Global, name: &Name) -> Result<Name, NoMemory>
         text: Text::from_slice(alloc, name.text.as_slice())?,
         at: name.at,
     })
+}
+
+/// Whether a token is that keyword.
+pub fn is_word(token: &Token, word: Keyword) -> bool
+    ensures { IsTrue result ↔ (token.now.kind ≡ kind.Word word) }
+{
+    match token.kind {
+        TokenKind::Word(w) => w == word,
+        _ => false,
+    }
+}
+
+/// The keyword at the front, and the tokens behind it.
+pub fn expect_word<'a>(
+    word: Keyword,
+    tokens: &'a [Token],
+) -> Result<(&'a Token, &'a [Token]), ParseError>
+    requires { IsEnded tokens.now }
+    ensures answer { Answers (IsToken (kind.Word word)) stops_anywhere tokens.now (λ x. (x.0.now, x.1.now)) result }
+{
+    let (first, rest) = front(tokens);
+    if is_word(first, word) {
+        Ok((first, rest))
+    } else {
+        Err(ParseError::Unexpected(first.at))
+    }
+}
+
+/// The name at the front, and the tokens behind it.
+pub fn expect_name(tokens: &[Token]) -> Result<(&Name, &[Token]), ParseError>
+    requires { IsEnded tokens.now }
+    ensures answer { Answers NameTok stops_anywhere tokens.now (λ x. (x.0.now, x.1.now)) result }
+{
+    let (first, rest) = front(tokens);
+    match &first.kind {
+        TokenKind::Named(name) => Ok((name, rest)),
+        _ => Err(ParseError::Unexpected(first.at)),
+    }
+}
+
+/// The number at the front, and the tokens behind it.
+pub fn expect_number(tokens: &[Token]) -> Result<(ArraySize, &[Token]), ParseError>
+    requires { IsEnded tokens.now }
+    ensures answer { Answers SizeTok stops_anywhere tokens.now (λ x. (x.0, x.1.now)) result }
+{
+    let (first, rest) = front(tokens);
+    match number(first) {
+        Some(number) => {
+            let size = ArraySize {
+                at: first.at,
+                number,
+            };
+            Ok((size, rest))
+        }
+        None => Err(ParseError::Unexpected(first.at)),
+    }
 }
