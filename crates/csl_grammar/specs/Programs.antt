@@ -1,5 +1,5 @@
 -- How tokens spell a program: one case for each rule of the grammar above expressions.
-use Rattle.std.specs.Prelude.{◌≡◌, ℕ, ℤ, neg_ℤ, Bool, true, false, List, [], ◌∷◌, Option, Some, None}
+use Rattle.std.specs.Prelude.{◌≡◌, ℕ, ℤ, pos, neg_ℤ, Bool, true, false, List, [], ◌∷◌, Option, Some, None}
 use Rattle.csl_tree.specs.declared.name.Name.{Name}
 use Rattle.csl_tree.specs.declared.token.Token.{Token}
 use Rattle.csl_tree.specs.declared.token.TokenKind.{TokenKind}
@@ -204,8 +204,8 @@ mutual
 -- ["-"] NUMBER
 pub data SpellsValue : List Token → List Token → Valued → Type 0 where
   plain : {token : Token} {rest : List Token} {n : ℤ} → token.kind ≡ kind.Number n → SpellsValue (token ∷ rest) rest (record { at = token.at; number = n })
-  minus : {sign token : Token} {rest : List Token} {n : ℤ} → IsMark sign mark.Minus → token.kind ≡ kind.Number n →
-      SpellsValue (sign ∷ token ∷ rest) rest (record { at = sign.at; number = neg_ℤ n })
+  minus : {sign token : Token} {rest : List Token} {n : ℕ} → IsMark sign mark.Minus → token.kind ≡ kind.Number (pos n) →
+      SpellsValue (sign ∷ token ∷ rest) rest (record { at = sign.at; number = neg_ℤ (pos n) })
 
 -- ["=" "{" [value {"," value}] "}"], and whether it is there
 pub data SpellsInitial : List Token → List Token → Bool → List Valued → Type 0 where

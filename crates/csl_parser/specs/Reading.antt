@@ -1,5 +1,5 @@
 -- What a reader of the grammar answers: the tree at the front of the tokens, or the first token that no continuation allows.
-use Rattle.std.specs.Prelude.{◌≡◌, ◌≢◌, ◌≤◌, ℕ, ℤ, Bool, true, false, List, [], ◌∷◌, ◌++◌, Option, Some, None, Result, Ok, Err}
+use Rattle.std.specs.Prelude.{◌≡◌, ◌≢◌, ◌≤◌, ℕ, ℤ, pos, negsuc, Bool, true, false, List, [], ◌∷◌, ◌++◌, Option, Some, None, Result, Ok, Err}
 use Rattle.csl_tree.specs.declared.token.Token.{Token}
 use Rattle.csl_tree.specs.declared.token.TokenKind.{TokenKind}
 use Rattle.csl_tree.specs.declared.token.TokenKind.TheVariants as kind
@@ -75,6 +75,16 @@ number_of (kind.Number n) = Some n
 number_of (kind.Text t) = None
 number_of (kind.Mark m) = None
 number_of kind.End = None
+
+-- the number, unless it is negative
+abbrev pub if_natural : Option ℤ → Option ℤ
+if_natural None = None
+if_natural (Some (pos n)) = Some (pos n)
+if_natural (Some (negsuc n)) = None
+
+-- the number that a token is, unless it is negative
+abbrev pub natural_of : TokenKind → Option ℤ
+natural_of k = if_natural (number_of k)
 
 -- the truth value that a word is
 abbrev pub truth_of_word : Keyword → Option Bool

@@ -1,6 +1,7 @@
 //! The grammar, read by recursive descent.
 #![tactic(auto)]
 
+mod decl;
 mod expr;
 mod tokens;
 

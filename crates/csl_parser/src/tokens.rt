@@ -1,12 +1,12 @@
 //! Single tokens.
 
-ghost use Rattle.std.specs.Prelude.{◌≡◌, ◌∷◌, ◌↔◌, IsTrue, IfOk, MatchOption};
+ghost use Rattle.std.specs.Prelude.{◌≡◌, ◌<◌, ◌∷◌, ◌↔◌, IsTrue, IfOk, MatchOption, length};
 ghost use Rattle.csl_tree.specs.declared.token.TokenKind.TheVariants as kind;
 ghost use Rattle.csl_tree.specs.declared.token.Mark.TheVariants as mark;
 ghost use Rattle.csl_tree.specs.declared.token.Token.{Token};
 ghost use Rattle.csl_grammar.specs.Expressions.{level_of};
 ghost use Rattle.csl_grammar.specs.Stops.{IsEnded, operator_of, BeginsOtherThan};
-ghost use Rattle.csl_parser.specs.Reading.{Answers, IsToken, NameTok, SizeTok, stops_anywhere, at_mark, prefix_of, number_of, truth_of};
+ghost use Rattle.csl_parser.specs.Reading.{Answers, IsToken, NameTok, SizeTok, stops_anywhere, at_mark, prefix_of, number_of, natural_of, truth_of};
 
 use crate::ParseError;
 use cal_base::NoMemory;
@@ -50,6 +50,7 @@ pub fn is_end(token: &Token) -> bool
 pub fn expect<'a>(mark: Mark, tokens: &'a [Token]) -> Result<(&'a Token, &'a [Token]), ParseError>
     requires { IsEnded tokens.now }
     ensures answer { Answers (IsToken (kind.Mark mark)) stops_anywhere tokens.now (λ x. (x.0.now, x.1.now)) result }
+    ensures shorter { IfOk result (λ x. length x.1.now < length tokens.now) }
 {
     let (first, rest) = front(tokens);
     if is_mark(first, mark) {
@@ -170,6 +171,7 @@ pub fn expect_word<'a>(
 ) -> Result<(&'a Token, &'a [Token]), ParseError>
     requires { IsEnded tokens.now }
     ensures answer { Answers (IsToken (kind.Word word)) stops_anywhere tokens.now (λ x. (x.0.now, x.1.now)) result }
+    ensures shorter { IfOk result (λ x. length x.1.now < length tokens.now) }
 {
     let (first, rest) = front(tokens);
     if is_word(first, word) {
@@ -183,6 +185,7 @@ pub fn expect_word<'a>(
 pub fn expect_name(tokens: &[Token]) -> Result<(&Name, &[Token]), ParseError>
     requires { IsEnded tokens.now }
     ensures answer { Answers NameTok stops_anywhere tokens.now (λ x. (x.0.now, x.1.now)) result }
+    ensures shorter { IfOk result (λ x. length x.1.now < length tokens.now) }
 {
     let (first, rest) = front(tokens);
     match &first.kind {
@@ -195,6 +198,7 @@ pub fn expect_name(tokens: &[Token]) -> Result<(&Name, &[Token]), ParseError>
 pub fn expect_number(tokens: &[Token]) -> Result<(ArraySize, &[Token]), ParseError>
     requires { IsEnded tokens.now }
     ensures answer { Answers SizeTok stops_anywhere tokens.now (λ x. (x.0, x.1.now)) result }
+    ensures shorter { IfOk result (λ x. length x.1.now < length tokens.now) }
 {
     let (first, rest) = front(tokens);
     match number(first) {
@@ -206,5 +210,21 @@ pub fn expect_number(tokens: &[Token]) -> Result<(ArraySize, &[Token]), ParseErr
             Ok((size, rest))
         }
         None => Err(ParseError::Unexpected(first.at)),
+    }
+}
+
+/// The number that a token is, unless it is negative.
+pub fn natural(token: &Token) -> Option<i64>
+    ensures { result ≡ natural_of token.now.kind }
+{
+    match number(token) {
+        Some(n) => {
+            if n < 0 {
+                None
+            } else {
+                Some(n)
+            }
+        }
+        None => None,
     }
 }
