@@ -1,5 +1,6 @@
 pub mod Named
 pub mod Pieces
 pub mod Images
-pub mod Entries
+pub mod Updates
+pub mod Pages
 pub mod Later

@@ -1,5 +1,5 @@
 -- Arithmetic on 64-bit signed numbers that traps.
-use Rattle.std.specs.Prelude.{ℕ, ℤ, pos, negsuc, ◌^◌, ◌+ℤ◌, ◌-ℤ◌, ◌*ℤ◌, neg_ℤ, Bool, nat_lt, int_div, int_rem, if◌then◌else◌, Result, Ok, Err}
+use Rattle.std.specs.Prelude.{ℤ, pos, negsuc, ◌^◌, Bool, nat_lt, int_div, int_rem, if◌then◌else◌, Result, Ok, Err}
 use Rattle.std.specs.Ordering.{int_eq}
 use Rattle.cal_base.specs.declared.ends.Cause.{Cause}
 use Rattle.cal_base.specs.declared.ends.Cause.TheVariants.{Overflow, DivisionByZero}

@@ -6,13 +6,13 @@ use Rattle.cal_base.specs.declared.ends.StepFault.{StepFault}
 use Rattle.cal_base.specs.Memory.{Memory}
 use Rattle.cal_base.specs.Claims.{StepJob, size_of, meant}
 
--- what main does next: it ends, shows a line, or opens a step and goes on with the memory that the step leaves
+-- what main does next: it ends, shows a line with its line feed, or opens a step and goes on with the memory that the step leaves
 pub data Main : Type 0 where
   Ends : RunEnd → Main
   Shows : List ℕ → Main → Main
   Opens : StepJob → (Memory → Main) → Main
 
--- what a run shows: a printed line, or a completed step with its number, its size and the memory before and after it
+-- what a run shows: a printed line with its line feed, or a completed step with its number, its size and the memory before and after it
 pub data Event : Type 0 where
   Line : List ℕ → Event
   Step : (number size : ℕ) → (before later : Memory) → Event

@@ -1,5 +1,5 @@
 -- Shared memory.
-use Rattle.std.specs.Prelude.{ℕ, zero, suc, ◌^◌, ◌-◌, Bool, true, false, ◌&&◌, List, [], ◌∷◌, ℤ, pos, negsuc, int_le, int_lt, slice_get, map}
+use Rattle.std.specs.Prelude.{ℕ, zero, suc, Bool, true, false, List, [], ◌∷◌, ℤ, pos, slice_get, map}
 use Rattle.std.specs.Option.{option_map_or}
 use Rattle.cal_base.specs.declared.step.WordKind.{WordKind}
 use Rattle.cal_base.specs.declared.step.WordKind.TheVariants.{Ordinary, Tally}
@@ -22,9 +22,13 @@ kinds_of memory = map (λ word. word.kind) memory
 abbrev pub is_ordinary : List WordKind → ℕ → Bool
 is_ordinary kinds address = option_map_or has_one_writer (slice_get kinds address) false
 
--- does the number fit 64 bits?
-abbrev pub is_i64 : ℤ → Bool
-is_i64 z = int_le (negsuc (2 ^ 63 - 1)) z && int_lt z (pos (2 ^ 63))
+-- the kind of a word; a word that is not there is ordinary
+abbrev pub kind_at : Memory → ℕ → WordKind
+kind_at memory address = option_map_or (λ word. word.kind) (slice_get memory address) Ordinary
+
+-- the value of a word, and 0 where there is none
+abbrev pub value_at : Memory → ℕ → ℤ
+value_at memory address = option_map_or (λ word. word.value) (slice_get memory address) (pos 0)
 
 -- the words of these kinds with these values; further values belong to no word
 abbrev pub memory_of : List WordKind → List ℤ → Memory
@@ -37,7 +41,3 @@ abbrev pub with_value : Memory → ℕ → ℤ → Memory
 with_value [] address value = []
 with_value (word ∷ memory) zero value = record { kind = word.kind; value = value } ∷ memory
 with_value (word ∷ memory) (suc address) value = word ∷ with_value memory address value
-
--- the value of a word, and 0 where there is none
-abbrev pub value_at : Memory → ℕ → ℤ
-value_at memory address = option_map_or (λ word. word.value) (slice_get memory address) (pos 0)

@@ -1,12 +1,14 @@
 -- Reading, writing and adding to words, in main and in a routine.
-use Rattle.std.specs.Prelude.{◌≡◌, ℕ, ℤ, pos, ◌+ℤ◌, List, Option, Some, None, Result, Ok, Err, slice_get}
-use Rattle.std.specs.Option.{unwrap_or, option_map_or}
+use Rattle.std.specs.Prelude.{◌≡◌, ℕ, ℤ, pos, ◌+ℤ◌, Result, Ok, Err}
+use Rattle.std.specs.Option.{unwrap_or}
 use Rattle.std.specs.FinMap.{get, insert, empty}
 use Rattle.cal_base.specs.declared.ends.Cause.{Cause}
+use Rattle.cal_base.specs.declared.ends.Cause.TheVariants.{Overflow}
+use Rattle.cal_base.specs.declared.ends.Overflow.{Overflow as OverflowMet}
 use Rattle.cal_base.specs.declared.step.WordKind.{WordKind}
 use Rattle.cal_base.specs.declared.step.WordKind.TheVariants.{Ordinary, Tally}
 use Rattle.cal_base.specs.Arithmetic.{checked}
-use Rattle.cal_base.specs.Memory.{Memory, value_at, with_value}
+use Rattle.cal_base.specs.Memory.{Memory, kind_at, value_at, with_value}
 use Rattle.cal_base.specs.Updates.{Written}
 pub use Rattle.cal_base.specs.declared.value.Store.{Store}
 pub use Rattle.cal_base.specs.declared.value.Store.TheVariants.{Main, Routine}
@@ -21,10 +23,6 @@ abbrev pub written_in : Store → Written
 written_in (Main memory) = empty
 written_in (Routine opening written) = written
 
--- the kind of a word; a word that is not there is ordinary
-abbrev pub kind_at : Memory → ℕ → WordKind
-kind_at memory address = option_map_or (λ word. word.kind) (slice_get memory address) Ordinary
-
 -- a word reads as the routine's own last write, else as the memory has it
 abbrev pub read_word : Store → ℕ → ℤ
 read_word (Main memory) address = value_at memory address
@@ -35,7 +33,7 @@ abbrev pub write_word : Store → ℕ → ℤ → Store
 write_word (Main memory) address value = Main (with_value memory address value)
 write_word (Routine opening written) address value = Routine opening (insert written address value)
 
--- what a routine adds to: the word as it reads, or its running sum of a tally word, which begins at 0
+-- what a routine adds to: an ordinary word as it reads, or its own running sum of a tally word, which begins at 0
 abbrev pub routine_base : WordKind → Memory → Written → ℕ → ℤ
 routine_base Ordinary opening written address = unwrap_or (get written address) (value_at opening address)
 routine_base Tally opening written address = unwrap_or (get written address) (pos 0)
@@ -53,3 +51,8 @@ with_sum store address (Err cause) = Err cause
 -- an adding reads, adds and writes; a sum outside 64 bits is an overflow
 abbrev pub add_word : Store → ℕ → ℤ → Result Store Cause
 add_word store address value = with_sum store address (checked (base_of store address +ℤ value))
+
+-- an adding ended so: with the store that holds the sum, or, where the sum overflows, with the store as it was
+abbrev pub Adds : Store → ℕ → ℤ → Store → Result (Unit {0}) OverflowMet → Type 0
+Adds before address value later (Ok done) = add_word before address value ≡ Ok later
+Adds before address value later (Err met) = (add_word before address value ≡ Err Overflow) × (later ≡ before)

@@ -1,11 +1,12 @@
 //! Shared memory.
 
-ghost use Rattle.std.specs.Prelude.{◌≡◌, ◌<◌, ◌≤◌, ◌*◌, ◌+◌, ◌/◌, ℕ, ℤ, Some, All, IfOk, length, slice_get, slice_index_or, slice_set, replicate, fold, pos};
-ghost use Rattle.cal_base.specs.Memory.{memory_of, kinds_of, value_at, with_value};
-ghost use Rattle.cal_base.specs.Pages.{first_memory, page_count, Paged, page_size, page_of, version_of, next_version, IsLater};
+ghost use Rattle.std.specs.Prelude.{◌≡◌, ◌<◌, ◌≤◌, ◌*◌, ◌+◌, ◌/◌, ℕ, ℤ, Some, All, IfOk, length, map, slice_set, replicate, pos};
+ghost use Rattle.std.specs.List.Sorted.{IsStrictlyIncreasing};
+ghost use Rattle.cal_base.specs.Memory.{memory_of, kind_at, value_at, with_value};
+ghost use Rattle.cal_base.specs.Pages.{first_memory, page_count, Paged, page_size, page_words, page_of, version_of, next_version, IsLater};
 
-use crate::step::WordKind;
 use crate::NoMemory;
+use crate::step::WordKind;
 use std::alloc::Global;
 use std::marker::Model;
 
@@ -42,9 +43,11 @@ impl Image {
         tallies: &[u32],
         stated: &[(u32, i64)],
     ) -> Result<Image, NoMemory>
-        requires limit { words ≤ 262144 }
+        requires limit { words ≤ MOST_WORDS }
         requires tallies { All (λ a. a < words) tallies.now }
+        requires tallies_ascend { IsStrictlyIncreasing tallies.now }
         requires stated { All (λ entry. entry.0 < words) stated.now }
+        requires stated_ascend { IsStrictlyIncreasing (map (λ entry. entry.0) stated.now) }
         ensures memory { IfOk result (λ image. image.memory ≡ first_memory words tallies.now stated.now) }
         ensures versions { IfOk result (λ image. image.versions ≡ replicate (page_count words) (Some 0)) }
     {
@@ -66,7 +69,7 @@ impl Image {
 
     pub fn len(&self) -> u32
         ensures words { result ≡ length self.now.memory }
-        ensures limit { length self.now.memory ≤ 262144 }
+        ensures limit { length self.now.memory ≤ MOST_WORDS }
     {
         self.kinds.len() as u32
     }
@@ -80,9 +83,19 @@ impl Image {
 
     pub fn kind(&self, a: u32) -> WordKind
         requires { a < length self.now.memory }
-        ensures { slice_get (kinds_of self.now.memory) a ≡ Some result }
+        ensures { result ≡ kind_at self.now.memory a }
     {
         self.kinds[a as usize]
+    }
+
+    /// The 64 words of a page; past the last word they are 0.
+    pub fn page(&self, p: u32) -> &[i64]
+        requires { page_size * p < length self.now.memory }
+        ensures { result.now ≡ page_words self.now.memory p }
+    {
+        let page = PAGE as usize;
+        let from = page * p as usize;
+        &self.values[from..from + page]
     }
 
     /// The version of a page, unless it passed 64 bits.

@@ -15,11 +15,12 @@ pub mod step;
 pub mod update;
 pub mod value;
 mod whole;
+pub mod words;
 
 pub use answer::Answer;
 pub use ends::{Cause, Overflow, RoutineEnd, RunEnd, StepFault};
 pub use host::{HostFiles, HostSink};
-pub use image::Image;
+pub use image::{Image, MOST_WORDS, PAGE};
 pub use job::JobName;
 pub use memory_files::MemFiles;
 pub use memory_sink::MemSink;
@@ -28,6 +29,7 @@ pub use step::{CALLER, Claimed, Entry, Verdict, Word, WordKind, WorkerTally};
 pub use update::{KeptUpdate, UpdateWords};
 pub use value::{Store, Val};
 pub use whole::{append_all, write_all};
+pub use words::Words;
 
 #[cfg(test)]
 mod tests;

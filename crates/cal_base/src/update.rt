@@ -1,11 +1,12 @@
 //! What a routine wrote and added.
 
-ghost use Rattle.std.specs.Prelude.{◌≡◌, ◌<◌, ℕ, ℤ, IfOk, Some, find, nat_le};
-ghost use Rattle.std.specs.Option.{ForSome};
-ghost use Rattle.cal_base.specs.Updates.{Written, IsNextFrom};
+ghost use Rattle.std.specs.Prelude.{◌≡◌, ◌^◌, ℕ, ℤ, IfOk, OnOk, OnErr};
+ghost use Rattle.std.specs.FinMap.{get, insert, empty};
+ghost use Rattle.cal_base.specs.Updates.{Written, IsNextFrom, IsBelow};
 
 use crate::NoMemory;
 use std::alloc::Global;
+use std::collections::BTreeMap;
 use std::marker::Model;
 
 /// A finite map from addresses to values and sums, read in ascending order.
@@ -15,52 +16,69 @@ pub trait UpdateWords {
     /// The entry at the least address from this one on.
     fn next_from(&self, from: u32) -> Option<(u32, i64)>
         ensures next { IsNextFrom (update self.now) from result }
-        ensures limit { ForSome result (λ entry. entry.0 < 262144) };
+        ensures addresses { IsBelow (2 ^ 32) (update self.now) };
 }
 
-/// A copy of an update.
+/// An update of its own.
 #[derive(Drop)]
 pub struct KeptUpdate {
-    entries: Vec<(u32, i64)>,
+    words: BTreeMap<u32, i64, Global>,
 }
 
 impl Model for KeptUpdate {
+    ghost use Rattle.std.specs.Prelude.{◌^◌};
     ghost use Rattle.std.specs.Coded.{coded_ℕ, coded_ℤ};
-    ghost use Rattle.std.specs.FinMap.{FinMap, from_entries, code};
-    ghost use Rattle.cal_base.specs.Updates.{Written, AscendBetween};
+    ghost use Rattle.std.specs.FinMap.{from_entries, code};
+    ghost use Rattle.cal_base.specs.Updates.{Written, IsBelow};
 
     ghost Value = { Written };
 
     ghost coded = { code coded_ℕ coded_ℤ };
 
-    ghost view = { λ k. from_entries k.entries.items };
+    ghost view = { λ k. from_entries k.words.entries };
 
-    ghost invariant = { λ k. AscendBetween 0 262144 k.entries.items };
-}
-
-// The first entry whose address is at least this one.
-fn first_from(entries: &[(u32, i64)], from: u32) -> Option<(u32, i64)>
-    ensures { result ≡ find (λ entry. nat_le from entry.0) entries.now }
-{
-    for entry in entries {
-        if from <= entry.0 {
-            return Some(*entry);
-        }
-    }
-    None
+    ghost invariant = { λ k. IsBelow (2 ^ 32) (from_entries k.words.entries) };
 }
 
 impl KeptUpdate {
+    /// An update with no entry. It takes no memory.
+    pub fn empty(alloc: Global) -> KeptUpdate
+        ensures { result ≡ empty }
+    {
+        KeptUpdate {
+            words: BTreeMap::new(alloc),
+        }
+    }
+
     pub fn copy_of<U: UpdateWords>(alloc: Global, update: &U) -> Result<KeptUpdate, NoMemory>
         ensures { IfOk result (λ kept. kept ≡ U.update update.now) }
     {
-        let mut entries = Vec::new(alloc);
+        let mut kept = KeptUpdate::empty(alloc);
         let mut from = 0u32;
         while let Some((a, v)) = update.next_from(from) {
-            entries.push((a, v))?;
+            kept.put(a, v)?;
+            if a == u32::MAX {
+                break;
+            }
             from = a + 1;
         }
-        Ok(KeptUpdate { entries })
+        Ok(kept)
+    }
+
+    /// The entry at this address.
+    pub fn get(&self, a: u32) -> Option<i64>
+        ensures { result ≡ get self.now a }
+    {
+        self.words.get(&a).copied()
+    }
+
+    /// Puts an entry at this address, in place of the one that was there. Where memory is wanted the update stays as it is.
+    pub fn put(&mut self, a: u32, v: i64) -> Result<(), NoMemory>
+        ensures put { OnOk result (self.new ≡ insert self.old a v) }
+        ensures unchanged { OnErr result (self.new ≡ self.old) }
+    {
+        self.words.insert(a, v)?;
+        Ok(())
     }
 }
 
@@ -68,6 +86,9 @@ impl UpdateWords for KeptUpdate {
     ghost update = { λ k. k };
 
     fn next_from(&self, from: u32) -> Option<(u32, i64)> {
-        first_from(&self.entries, from)
+        match self.words.range(from..).next() {
+            None => None,
+            Some((a, v)) => Some((*a, *v)),
+        }
     }
 }

@@ -1,12 +1,12 @@
 -- The longest item at the front of some bytes, for each kind of item.
-use Rattle.std.proofs.Common.{◌≡◌, ◌≢◌, ◌≤◌, ◌<◌, ◌+◌, ◌⊎◌, inl, inr, ℕ, suc, zero, List, [], ◌∷◌, ◌++◌, length, refl, ap, sym, ◌∙◌, subst, arith, append_assoc, length-append}
+use Rattle.std.proofs.Common.{◌≡◌, ◌≢◌, ◌≤◌, ◌<◌, ◌+◌, inl, inr, ℕ, suc, List, [], ◌∷◌, ◌++◌, length, refl, ap, sym, ◌∙◌, subst, arith, append_assoc, length-append, drop}
 use Rattle.std.specs.List.{AllByRecursion}
 use Rattle.csl_tree.specs.declared.token.Mark.{Mark}
 use Rattle.csl_tree.specs.declared.token.Mark.TheVariants as mark
 use Rattle.csl_lexer.specs.declared.scan.ByteClass.{ByteClass}
 use Rattle.csl_lexer.specs.declared.scan.ByteClass.TheVariants as class
-use Rattle.csl_lexer.specs.Tokens.{IsBlank, IsDigit, IsLetter, IsNameByte, IsInLine, IsInText, NeverCloses, value_of, spelled, Item, Gap, Run, Digits, Quoted, Sign, IsItem, blank, line, block, run, digits, quoted, sign, OpensComment, OpensText, Longest}
-use Rattle.csl_lexer.specs.Steps.{IsIn, BeginsOutside}
+use Rattle.csl_lexer.specs.Tokens.{IsBlank, IsDigit, IsLetter, IsNameByte, IsInLine, IsInText, NeverCloses, value_of, spelled, Item, Gap, Run, Digits, Quoted, Sign, IsItem, blank, line, block, run, digits, quoted, sign, OpensComment, Longest}
+use Rattle.csl_lexer.specs.Steps.{IsIn, BeginsOutside, LongestMark, IsOther}
 
 -- bytes of a class go no further than a run of them that ends
 run_bound : (c : ByteClass) (xs rest ys behind : List ℕ) → AllByRecursion (IsIn c) ys → xs ++ rest ≡ ys ++ behind → BeginsOutside c rest → length ys ≤ length xs
@@ -156,6 +156,32 @@ mark_short mark.GreaterEqual = omega arith
 mark_short mark.AndAnd = omega arith
 mark_short mark.OrOr = omega arith
 
+mark_some : (m : Mark) → 0 < length (spelled m)
+mark_some mark.OpenBrace = omega arith
+mark_some mark.CloseBrace = omega arith
+mark_some mark.OpenParen = omega arith
+mark_some mark.CloseParen = omega arith
+mark_some mark.OpenBracket = omega arith
+mark_some mark.CloseBracket = omega arith
+mark_some mark.Comma = omega arith
+mark_some mark.Semicolon = omega arith
+mark_some mark.Assign = omega arith
+mark_some mark.AddAssign = omega arith
+mark_some mark.Plus = omega arith
+mark_some mark.Minus = omega arith
+mark_some mark.Star = omega arith
+mark_some mark.Slash = omega arith
+mark_some mark.Percent = omega arith
+mark_some mark.Bang = omega arith
+mark_some mark.Equal = omega arith
+mark_some mark.NotEqual = omega arith
+mark_some mark.Less = omega arith
+mark_some mark.LessEqual = omega arith
+mark_some mark.Greater = omega arith
+mark_some mark.GreaterEqual = omega arith
+mark_some mark.AndAnd = omega arith
+mark_some mark.OrOr = omega arith
+
 pub heads : (a b : ℕ) (xs ys : List ℕ) → a ∷ xs ≡ b ∷ ys → a ≡ b
 heads a b xs ys e = cc
 
@@ -164,6 +190,16 @@ seconds c a b xs ys e = cc
 
 not_open : (b : ℕ) (tail : List ℕ) → b ≢ 47 → OpensComment (b ∷ tail) → ⊥
 not_open b tail other o = let e : b ∷ tail ≡ 47 ∷ 42 ∷ o.body = o.split in other (cc)
+
+-- an item takes some byte
+pub item_some : {piece : List ℕ} {item : Item} → IsItem piece item → 0 < length piece
+item_some (blank w) = omega arith
+item_some (line w) = omega arith
+item_some (block xs w) = omega arith
+item_some (run l w) = omega arith
+item_some (digits l w) = omega arith
+item_some (quoted xs w) = omega arith
+item_some (sign m) = mark_some m
 
 pub run_longest : (b : ℕ) (bytes rest : List ℕ) → IsLetter b → AllByRecursion IsNameByte bytes → BeginsOutside class.InName rest → Longest (b ∷ bytes ++ rest) (b ∷ bytes) rest (Run (b ∷ bytes))
 run_longest b bytes rest letter all out = record {
@@ -258,3 +294,51 @@ line_longest body rest all out = record {
     at_most _ _ (digits {b = y} l w) behind e = absurd (omega (arith, heads 47 y _ _ e))
     at_most _ _ (quoted ys w) behind e = absurd (omega (arith, heads 47 34 _ _ e))
     at_most _ _ (sign m) behind e = omega (arith, mark_short m)
+
+-- a block comment goes no further than the first `*/`
+close_bound : (body ys rest behind : List ℕ) → NeverCloses (ys ++ 42 ∷ []) → body ++ 42 ∷ 47 ∷ rest ≡ ys ++ 42 ∷ 47 ∷ behind → length ys ≤ length body
+close_bound body [] rest behind never e = omega arith
+close_bound [] (y ∷ []) rest behind never e = let tails : 47 ∷ rest ≡ 42 ∷ 47 ∷ behind = cc in absurd (omega (arith, heads 47 42 _ _ tails))
+close_bound [] (y ∷ z ∷ ys) rest behind never e =
+    let first : 42 ≡ y = heads 42 y _ _ e in
+    let tails : 47 ∷ rest ≡ z ∷ (ys ++ 42 ∷ 47 ∷ behind) = cc in
+    let second : 47 ≡ z = heads 47 z _ _ tails in
+    absurd (never [] (ys ++ 42 ∷ []) (ap (λ x. x ∷ z ∷ (ys ++ 42 ∷ [])) (sym first) ∙ ap (λ x. 42 ∷ x ∷ (ys ++ 42 ∷ [])) (sym second)))
+close_bound (b ∷ body) (y ∷ ys) rest behind never e =
+    let tails : body ++ 42 ∷ 47 ∷ rest ≡ ys ++ 42 ∷ 47 ∷ behind = cc in
+    let below : length ys ≤ length body = close_bound body ys rest behind (λ before after split. never (y ∷ before) after (ap (λ x. y ∷ x) split)) tails in
+    omega arith
+
+pub block_longest : (body rest : List ℕ) → NeverCloses (body ++ 42 ∷ []) → Longest (47 ∷ 42 ∷ body ++ 42 ∷ 47 ∷ rest) (47 ∷ 42 ∷ body ++ (42 ∷ 47 ∷ [])) rest Gap
+block_longest body rest never = record {
+  split = ap (λ x. 47 ∷ 42 ∷ x) (sym (append_assoc body (42 ∷ 47 ∷ []) rest));
+  is_item = block body never;
+  longest = λ other behind kind e d. at_most other kind d behind e;
+  closed = λ o. let e : 47 ∷ 42 ∷ body ++ 42 ∷ 47 ∷ rest ≡ 47 ∷ 42 ∷ o.body = o.split in let tails : body ++ 42 ∷ 47 ∷ rest ≡ o.body = cc in o.never body rest (sym tails);
+}
+  where
+    size : length (47 ∷ 42 ∷ body ++ (42 ∷ 47 ∷ [])) ≡ length body + 4
+    size = omega (arith, length-append body (42 ∷ 47 ∷ []))
+
+    at_most : (other : List ℕ) (kind : Item) → IsItem other kind → (behind : List ℕ) → 47 ∷ 42 ∷ body ++ 42 ∷ 47 ∷ rest ≡ other ++ behind → length other ≤ length (47 ∷ 42 ∷ body ++ (42 ∷ 47 ∷ []))
+    at_most _ _ (blank w) behind e = omega (arith, size)
+    at_most _ _ (line w) behind e = absurd (omega (arith, seconds 47 42 47 _ _ e))
+    at_most _ _ (block ys w) behind e =
+        let tails : body ++ 42 ∷ 47 ∷ rest ≡ (ys ++ (42 ∷ 47 ∷ [])) ++ behind = cc in
+        let below : length ys ≤ length body = close_bound body ys rest behind w (tails ∙ append_assoc ys (42 ∷ 47 ∷ []) behind) in
+        omega (arith, size, length-append ys (42 ∷ 47 ∷ []))
+    at_most _ _ (run {b = y} l w) behind e = absurd (omega (arith, heads 47 y _ _ e, letter_low y l))
+    at_most _ _ (digits {b = y} l w) behind e = absurd (omega (arith, heads 47 y _ _ e))
+    at_most _ _ (quoted ys w) behind e = absurd (omega (arith, heads 47 34 _ _ e))
+    at_most _ _ (sign m) behind e = omega (arith, size, mark_short m)
+
+pub sign_longest : (bytes : List ℕ) (m : Mark) (n : ℕ) → LongestMark bytes m n → IsOther bytes → Longest bytes (spelled m) (drop n bytes) (Sign m)
+sign_longest bytes m n longest other = record {
+  split = longest.split;
+  is_item = sign m;
+  longest = λ piece behind kind e d.
+      let as_mark : (m' : Mark) × (kind ≡ Sign m') × (piece ≡ spelled m') = other.sign_only piece behind kind e d in
+      let below : length (spelled as_mark.0) ≤ n = longest.longest as_mark.0 behind (e ∙ ap (λ x. x ++ behind) as_mark.2) in
+      omega (arith, below, longest.size, ap (λ (x : List ℕ). length x) as_mark.2);
+  closed = other.closed;
+}

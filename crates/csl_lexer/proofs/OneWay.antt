@@ -1,5 +1,5 @@
 -- A text is read in one way: one token list, or one first fault.
-use Rattle.std.proofs.Common.{◌≡◌, ◌≢◌, ◌≤◌, ◌<◌, ◌+◌, ◌⊎◌, inl, inr, ℕ, suc, zero, Bool, true, false, cond, List, [], ◌∷◌, ◌++◌, Option, Some, None, Result, Ok, Err, length, refl, ap, sym, ◌∙◌, subst, arith, append_assoc, append-nil, length-append, nat_eq, find, ◌^◌}
+use Rattle.std.proofs.Common.{◌≡◌, ◌≤◌, ◌<◌, ◌+◌, ◌⊎◌, inl, inr, ℕ, Bool, true, false, cond, List, [], ◌∷◌, ◌++◌, Option, Some, None, Result, Err, length, refl, ap, sym, ◌∙◌, subst, arith, append_assoc, append-nil, nat_eq, find, ◌^◌}
 use Rattle.std.specs.List.{AllByRecursion}
 use Rattle.csl_tree.specs.declared.token.Token.{Token}
 use Rattle.csl_tree.specs.declared.token.TokenKind.{TokenKind}
@@ -9,9 +9,7 @@ use Rattle.csl_tree.specs.declared.token.Keyword.TheVariants as word
 use Rattle.csl_tree.specs.declared.token.Mark.{Mark}
 use Rattle.csl_tree.specs.declared.token.Mark.TheVariants as mark
 use Rattle.csl_lexer.specs.declared.LexError.{LexError}
-use Rattle.csl_lexer.specs.declared.LexError.TheVariants as fault
-use Rattle.csl_lexer.specs.declared.scan.ByteClass.TheVariants as class
-use Rattle.csl_lexer.specs.Tokens.{IsBlank, IsDigit, IsInText, IsLetter, spelled, written, value_of, Item, Gap, Run, Digits, Quoted, Sign, IsItem, blank, line, block, run, digits, quoted, sign, OpensComment, OpensText, Longest, IsWord, keyword, name, IsToken, run_token, number_token, text_token, mark_token, IsFault, bad_byte, long_name, long_number, open_comment, open_text, Reads, at_end, gap, token, fault_here, before}
+use Rattle.csl_lexer.specs.Tokens.{IsInText, spelled, written, value_of, Item, Gap, Run, Digits, Quoted, Sign, IsItem, blank, line, block, run, digits, quoted, sign, OpensComment, OpensText, Longest, IsWord, keyword, name, IsToken, run_token, number_token, text_token, mark_token, IsFault, bad_byte, long_name, long_number, open_comment, open_text, Reads, at_end, gap, token, fault_here}
 use Rattle.csl_lexer.specs.Laws.{ReadsOneWay}
 use Rattle.csl_lexer.proofs.Items.{letter_low, blank_high, mark_no_letter, mark_front, heads}
 

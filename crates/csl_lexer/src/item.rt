@@ -1,52 +1,70 @@
 //! The item at the front of some bytes: a blank, a comment or a token.
 
-ghost use Rattle.std.specs.Prelude.{◌≡◌, ◌≤◌, ◌<◌, IfOk, length, slice_index};
-ghost use Rattle.csl_lexer.specs.Tokens.{IsWord, IsLetter};
-ghost use Rattle.csl_lexer.specs.Steps.{Steps};
+ghost use Rattle.std.specs.Prelude.{◌≡◌, ◌≤◌, ◌<◌, ◌∷◌, IfOk, length, slice_index};
+ghost use Rattle.csl_lexer.specs.Tokens.{IsWord, IsLetter, IsDigit};
+ghost use Rattle.csl_lexer.specs.Steps.{Steps, IsOther};
 
 use crate::LexError;
-use crate::scan::{ByteClass, is_blank, is_letter, run_length};
+use crate::scan::{ByteClass, closing, is_blank, is_letter, run_length, value};
+use crate::spelling::{keyword, mark};
 use cal_base::NoMemory;
 use csl_tree::name::{Name, Text};
 use csl_tree::token::TokenKind;
 use std::alloc::Global;
 
-/// The token at the front, or none for a blank or a comment, and how many bytes it takes.
+/// What stands at the front of bytes that begin at a place of the text.
 pub fn item(alloc: Global, at: u32, bytes: &[u8]) -> Result<(Option<TokenKind>, usize), LexError>
     requires { 0 < length bytes.now }
-    ensures step { Steps at bytes.now result }
-    ensures moves { IfOk result (λ x. (0 < x.1) × (x.1 ≤ length bytes.now)) }
+    ensures { Steps at bytes.now result }
 {
     let first = bytes[0];
     if is_blank(first) {
-        return Ok((None, 1));
+        Ok((None, 1))
+    } else if is_letter(first) {
+        word(alloc, at, bytes)
+    } else if first.is_ascii_digit() {
+        number(at, bytes)
+    } else if let Some(inner) = bytes.strip_prefix(b"\"") {
+        text(alloc, at, inner)
+    } else if let Some(body) = bytes.strip_prefix(b"//") {
+        Ok((None, 2 + run_length(ByteClass::InLine, body)))
+    } else if let Some(body) = bytes.strip_prefix(b"/*") {
+        block_comment(at, body)
+    } else {
+        sign(at, bytes)
     }
-    if first == b'"' {
-        return text(alloc, at, bytes);
-    }
-    if is_letter(first) {
-        return word(alloc, at, bytes);
-    }
-    other(at, bytes)
 }
 
-/// What is no blank, text or word. Numbers, comments and marks are still to be written here.
-fn other(at: u32, bytes: &[u8]) -> Result<(Option<TokenKind>, usize), LexError>
-    requires { 0 < length bytes.now }
-    ensures step { Steps at bytes.now result }
-    ensures moves { IfOk result (λ x. (0 < x.1) × (x.1 ≤ length bytes.now)) }
+/// A block comment, from behind its `/*` on.
+fn block_comment(at: u32, body: &[u8]) -> Result<(Option<TokenKind>, usize), LexError>
+    ensures { Steps at (47 ∷ 42 ∷ body.now) result }
 {
-    Err(LexError::BadByte(at))
+    match closing(body) {
+        Some(length) => Ok((None, length + 4)),
+        None => Err(LexError::OpenComment(at)),
+    }
+}
+
+/// A text, from behind its first quote on.
+fn text(alloc: Global, at: u32, inner: &[u8]) -> Result<(Option<TokenKind>, usize), LexError>
+    ensures { Steps at (34 ∷ inner.now) result }
+{
+    let length = run_length(ByteClass::InText, inner);
+    if length < inner.len() && inner[length] == b'"' {
+        let text = Text::from_slice(alloc, &inner[..length])?;
+        Ok((Some(TokenKind::Text(Name { text, at })), length + 2))
+    } else {
+        Err(LexError::OpenText(at))
+    }
 }
 
 /// A name or a keyword.
 fn word(alloc: Global, at: u32, bytes: &[u8]) -> Result<(Option<TokenKind>, usize), LexError>
     requires some { 0 < length bytes.now }
     requires letter { IsLetter (slice_index bytes.now 0) }
-    ensures step { Steps at bytes.now result }
-    ensures moves { IfOk result (λ x. (0 < x.1) × (x.1 ≤ length bytes.now)) }
+    ensures { Steps at bytes.now result }
 {
-    let length = 1 + run_length(ByteClass::InName, &bytes[1..]);
+    let length = run_length(ByteClass::InName, bytes);
     if length > 64 {
         return Err(LexError::LongName(at));
     }
@@ -54,27 +72,38 @@ fn word(alloc: Global, at: u32, bytes: &[u8]) -> Result<(Option<TokenKind>, usiz
     Ok((Some(kind), length))
 }
 
-/// The keyword or the name that the bytes are. The table of keywords is still to be written here.
+/// The keyword or the name that the bytes are.
 fn word_kind(alloc: Global, at: u32, bytes: &[u8]) -> Result<TokenKind, NoMemory>
     ensures { IfOk result (λ kind. IsWord at bytes.now kind) }
 {
+    if let Some(word) = keyword(bytes) {
+        return Ok(TokenKind::Word(word));
+    }
     let text = Text::from_slice(alloc, bytes)?;
     Ok(TokenKind::Named(Name { text, at }))
 }
 
-/// A text, from its quote on.
-fn text(alloc: Global, at: u32, bytes: &[u8]) -> Result<(Option<TokenKind>, usize), LexError>
+/// A number.
+fn number(at: u32, bytes: &[u8]) -> Result<(Option<TokenKind>, usize), LexError>
     requires some { 0 < length bytes.now }
-    requires quote { slice_index bytes.now 0 ≡ 34 }
-    ensures step { Steps at bytes.now result }
-    ensures moves { IfOk result (λ x. (0 < x.1) × (x.1 ≤ length bytes.now)) }
+    requires digit { IsDigit (slice_index bytes.now 0) }
+    ensures { Steps at bytes.now result }
 {
-    let inner = &bytes[1..];
-    let length = run_length(ByteClass::InText, inner);
-    if length < inner.len() && inner[length] == b'"' {
-        let text = Text::from_slice(alloc, &inner[..length])?;
-        Ok((Some(TokenKind::Text(Name { text, at })), length + 2))
-    } else {
-        Err(LexError::OpenText(at))
+    let length = run_length(ByteClass::InNumber, bytes);
+    match value(&bytes[..length]) {
+        Some(number) => Ok((Some(TokenKind::Number(number)), length)),
+        None => Err(LexError::LongNumber(at)),
+    }
+}
+
+/// A mark, or else a byte that begins nothing.
+fn sign(at: u32, bytes: &[u8]) -> Result<(Option<TokenKind>, usize), LexError>
+    requires some { 0 < length bytes.now }
+    requires other { IsOther bytes.now }
+    ensures { Steps at bytes.now result }
+{
+    match mark(bytes) {
+        Some((mark, length)) => Ok((Some(TokenKind::Mark(mark)), length)),
+        None => Err(LexError::BadByte(at)),
     }
 }

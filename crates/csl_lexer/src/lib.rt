@@ -11,13 +11,26 @@ use cal_base::NoMemory;
 use csl_tree::token::{Token, TokenKind};
 use std::alloc::{AllocFailed, Global};
 
-#[derive(Debug, Drop)]
+mod item;
+mod scan;
+mod spelling;
+#[cfg(test)]
+mod tests;
+
+/// Why a text has no tokens: its first fault, by the place of the first byte of what is wrong.
+#[derive(Clone, Copy, Debug, PartialEq, Eq)]
 pub enum LexError {
+    /// The byte begins no token, blank or comment.
     BadByte(u32),
+    /// A name or keyword has more than 64 bytes.
     LongName(u32),
+    /// A number is above 9223372036854775807.
     LongNumber(u32),
+    /// `/*` has no `*/` behind it.
     OpenComment(u32),
+    /// LF or the end of the text comes before the closing `"`.
     OpenText(u32),
+    /// Memory was wanted and not there.
     NoMemory,
 }
 
@@ -43,10 +56,7 @@ impl<T: Drop> From<AllocFailed<T>> for LexError {
     }
 }
 
-mod item;
-mod scan;
-
-/// The tokens of a text.
+/// The tokens of a text of at most 1,048,576 bytes, with the end of the text as the last one.
 pub fn lex(alloc: Global, text: &[u8]) -> Result<Vec<Token>, LexError>
     requires { length text.now ≤ 1048576 }
     ensures tokens { IfOk result (λ tokens. IsTokenList text.now tokens.items) }

@@ -7,7 +7,6 @@ use Rattle.cal_base.specs.declared.step.WordKind.{WordKind}
 use Rattle.cal_base.specs.Numbers.{least_below}
 use Rattle.cal_base.specs.Memory.{Memory, kinds_of, is_ordinary}
 use Rattle.cal_base.specs.declared.answer.Answer.{Answer}
-use Rattle.cal_base.specs.declared.answer.Answer.TheVariants.{Update, Fault}
 use Rattle.cal_base.specs.Answers.{Answers, answer_of, all_of, restricted_to, entry_in, is_fault}
 use Rattle.cal_base.specs.After.{first_writer, is_shared, shared_word, is_faulty, least_faulty, fault_by, fault_of, after, merged_memory, unless_outside, is_outside}
 use Rattle.step_laws.specs.Laws.{OneWriterEach}

@@ -3,5 +3,5 @@ pub mod Agreement
 pub mod Histories
 pub mod StepLaws
 pub mod Growth
-mod Rows
+pub mod Rows
 mod HistoryRows

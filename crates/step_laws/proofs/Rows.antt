@@ -1,46 +1,106 @@
--- Worked examples of what a step leaves.
-use Rattle.std.proofs.Common.{◌≡◌, ℕ, ◌-◌, ◌^◌, cond, [], ◌∷◌, refl, ap, ◌∙◌, Some, None, Err, Ok, ℤ, pos}
+-- The worked examples, computed.
+use Rattle.std.proofs.Common.{◌≡◌, ℕ, cond, refl, ap, ◌∙◌, Some, None, ℤ}
 use Rattle.std.specs.FinMap.{empty, insert, get, get-insert, get-empty}
 use Rattle.std.specs.Cmp.{nat_cmp_total}
+use Rattle.std.specs.Fmt.{digits}
 use Rattle.std.specs.Ordering.{nat_cmp, eq_by_cmp}
-use Rattle.cal_base.specs.declared.ends.Cause.TheVariants.{Assertion}
-use Rattle.cal_base.specs.declared.ends.StepFault.TheVariants.{Trap, Conflict, Total}
-use Rattle.cal_base.specs.declared.step.WordKind.TheVariants.{Ordinary, Tally}
 use Rattle.cal_base.specs.Numbers.{least_below}
-use Rattle.cal_base.specs.declared.step.Word.{Word}
-use Rattle.cal_base.specs.declared.answer.Answer.{Answer}
-use Rattle.cal_base.specs.declared.answer.Answer.TheVariants.{Update, Fault}
-use Rattle.cal_base.specs.Answers.{all_of}
 use Rattle.cal_base.specs.After.{after, least_faulty, is_faulty, shared_word, fault_of, merged_memory}
+use Rattle.step_laws.specs.Rows
 
-abbrev word : ℤ → Word
-word v = record { kind = Ordinary; value = v }
+pub get_none : (at : ℕ) → get (empty {X = ℤ} {R = nat_cmp}) at ≡ None
+get_none at = get-empty nat_cmp at
 
-abbrev tally : ℤ → Word
-tally v = record { kind = Tally; value = v }
-
--- an update of one word
-abbrev one : ℕ → ℤ → Answer
-one address value = Update (insert empty address value)
-
-get_one : (address at : ℕ) (value : ℤ) → get (insert (empty {R = nat_cmp}) address value) at ≡ cond (eq_by_cmp nat_cmp at address) (Some value) None
+pub get_one : (address at : ℕ) (value : ℤ) → get (insert (empty {R = nat_cmp}) address value) at ≡ cond (eq_by_cmp nat_cmp at address) (Some value) None
 get_one address at value = get-insert nat_cmp_total empty address value at ∙ ap (λ o. cond (eq_by_cmp nat_cmp at address) (Some value) o) (get-empty nat_cmp at)
 
--- both routines write word 0: the second is in conflict with the first, also where it writes what was there
-both_write : after (word (pos 0) ∷ []) (all_of (one 0 (pos 0) ∷ one 0 (pos 0) ∷ [])) ≡ Err (Conflict 1 0 0)
-unfolding after least_faulty is_faulty shared_word least_below fault_of
-both_write = simp get_one
+pub get_two : (a b at : ℕ) (v w : ℤ) → get (insert (insert (empty {R = nat_cmp}) a v) b w) at ≡ cond (eq_by_cmp nat_cmp at b) (Some w) (cond (eq_by_cmp nat_cmp at a) (Some v) None)
+get_two a b at v w = get-insert nat_cmp_total (insert empty a v) b w at ∙ ap (λ o. cond (eq_by_cmp nat_cmp at b) (Some w) o) (get_one a at v)
 
--- a routine that fails has written nothing, so the other has no conflict
-fails : after (word (pos 0) ∷ []) (all_of (Fault Assertion ∷ one 0 (pos 0) ∷ [])) ≡ Err (Trap 0 Assertion)
-unfolding after least_faulty is_faulty shared_word least_below fault_of
-fails = refl
+pub division_cuts : Rows.DivisionCuts
+division_cuts = (refl, refl)
 
-sums : after (tally (pos 1) ∷ word (pos 7) ∷ []) (all_of (one 0 (pos 2) ∷ one 0 (pos 3) ∷ [])) ≡ Ok (tally (pos 6) ∷ word (pos 7) ∷ [])
+pub least_by_minus_one : Rows.LeastByMinusOne
+least_by_minus_one = (refl, refl)
+
+pub zero_divisor : Rows.ZeroDivisor
+zero_divisor = (refl, refl)
+
+pub reads_its_writes : Rows.ReadsItsWrites
+reads_its_writes = (simp get_one, simp get_one)
+
+pub sum_begins_at_zero : Rows.SumBeginsAtZero
+sum_begins_at_zero = simp get_none
+
+pub adds_to_what_it_reads : Rows.AddsToWhatItReads
+adds_to_what_it_reads = (simp get_none, refl)
+
+pub sum_overflows : Rows.SumOverflows
+sum_overflows = simp get_one
+
+pub words_of_their_own : Rows.WordsOfTheirOwn
 unfolding after least_faulty is_faulty shared_word least_below fault_of merged_memory
-sums = simp get_one
+words_of_their_own = simp get_one
 
--- the two together pass 64 bits
-overflows : after (word (pos 5) ∷ tally (pos 0) ∷ []) (all_of (one 1 (pos (2 ^ 63 - 1)) ∷ one 1 (pos 1) ∷ [])) ≡ Err (Total 1)
+pub two_writers : Rows.TwoWriters
+unfolding after least_faulty is_faulty shared_word least_below fault_of
+two_writers = simp get_one
+
+pub two_equal_writers : Rows.TwoEqualWriters
+unfolding after least_faulty is_faulty shared_word least_below fault_of
+two_equal_writers = simp get_one
+
+pub three_writers : Rows.ThreeWriters
+unfolding after least_faulty is_faulty shared_word least_below fault_of
+three_writers = simp (get_one, get_none)
+
+pub least_shared_word : Rows.LeastSharedWord
+unfolding after least_faulty is_faulty shared_word least_below fault_of
+least_shared_word = simp (get_two)
+
+pub least_trap : Rows.LeastTrap
+unfolding after least_faulty is_faulty shared_word least_below fault_of
+least_trap = simp get_one
+
+pub failed_wrote_nothing : Rows.FailedWroteNothing
+unfolding after least_faulty is_faulty shared_word least_below fault_of
+failed_wrote_nothing = refl
+
+pub conflict_below_trap : Rows.ConflictBelowTrap
+unfolding after least_faulty is_faulty shared_word least_below fault_of
+conflict_below_trap = simp get_one
+
+pub sum_of_numbers : Rows.SumOfNumbers
 unfolding after least_faulty is_faulty shared_word least_below fault_of merged_memory
-overflows = simp get_one
+sum_of_numbers = simp get_one
+
+pub total_outside : Rows.TotalOutside
+unfolding after least_faulty is_faulty shared_word least_below fault_of merged_memory
+total_outside = simp get_one
+
+pub least_total : Rows.LeastTotal
+unfolding after least_faulty is_faulty shared_word least_below fault_of merged_memory
+least_total = simp get_two
+
+pub total_inside : Rows.TotalInside
+unfolding after least_faulty is_faulty shared_word least_below fault_of merged_memory
+total_inside = simp get_one
+
+pub one_step : Rows.OneStep
+unfolding after least_faulty is_faulty shared_word least_below fault_of merged_memory
+one_step = simp get_one
+
+pub second_step_fails : Rows.SecondStepFails
+unfolding after least_faulty is_faulty shared_word least_below fault_of merged_memory
+second_step_fails = (simp get_one, simp get_one)
+
+pub steps_are_shown : Rows.StepsAreShown
+unfolding digits
+steps_are_shown = refl
+
+pub lines_alone : Rows.LinesAlone
+lines_alone = refl
+
+pub fault_lines : Rows.FaultLines
+unfolding digits
+fault_lines = (refl, refl, refl, refl, refl)

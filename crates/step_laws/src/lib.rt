@@ -1,4 +1,5 @@
 //! The laws of parallel steps. Each is the contract of a function that does nothing.
+#![tactic(auto)]
 
 ghost use Rattle.step_laws.specs.Laws.{
   PrefixesAreLegal,
@@ -14,6 +15,45 @@ ghost use Rattle.step_laws.specs.Laws.{
   OneWriterEach,
 };
 ghost use Rattle.cal_base.specs.Pages.{LaterIsTransitive, WritesAreLater};
+ghost use Rattle.step_laws.specs.Rows.{
+  DivisionCuts,
+  LeastByMinusOne,
+  ZeroDivisor,
+  ReadsItsWrites,
+  SumBeginsAtZero,
+  AddsToWhatItReads,
+  SumOverflows,
+  WordsOfTheirOwn,
+  TwoWriters,
+  TwoEqualWriters,
+  ThreeWriters,
+  LeastSharedWord,
+  LeastTrap,
+  FailedWroteNothing,
+  ConflictBelowTrap,
+  SumOfNumbers,
+  TotalOutside,
+  LeastTotal,
+  TotalInside,
+  Claim35,
+  Claim36,
+  CallerStillClaims,
+  ClaimsGoRound,
+  NothingLeft,
+  UnaskedIsNoDelivery,
+  OlderIsStale,
+  Arrival102,
+  Arrival103,
+  DeliveredTwice,
+  DeliveredLate,
+  FaultArrivesFirst,
+  ConflictInAnyOrder,
+  OneStep,
+  SecondStepFails,
+  StepsAreShown,
+  LinesAlone,
+  FaultLines,
+};
 
 /// What comes first in a legal history is legal. Along it more is delivered and less is wanted.
 pub fn prefixes_of_a_history()
@@ -54,4 +94,61 @@ pub fn writers_of_a_word()
 pub fn later_images()
     ensures transitive { LaterIsTransitive }
     ensures writes { WritesAreLater }
+{}
+
+/// Worked examples of numbers and words.
+pub fn worked_words()
+    ensures division { DivisionCuts }
+    ensures least { LeastByMinusOne }
+    ensures zero { ZeroDivisor }
+    ensures reads { ReadsItsWrites }
+    ensures sums { SumBeginsAtZero }
+    ensures adds { AddsToWhatItReads }
+    ensures overflow { SumOverflows }
+{}
+
+/// Worked examples of what a step leaves.
+pub fn worked_steps()
+    ensures apart { WordsOfTheirOwn }
+    ensures conflict { TwoWriters }
+    ensures equal_values { TwoEqualWriters }
+    ensures three_writers { ThreeWriters }
+    ensures least_word { LeastSharedWord }
+    ensures least_trap { LeastTrap }
+    ensures failed { FailedWroteNothing }
+    ensures conflict_first { ConflictBelowTrap }
+    ensures sum { SumOfNumbers }
+    ensures total { TotalOutside }
+    ensures least_total { LeastTotal }
+    ensures inside { TotalInside }
+{}
+
+/// Worked examples of claims and arrivals.
+pub fn worked_claims()
+    ensures granted { Claim35 }
+    ensures spent { Claim36 }
+    ensures caller { CallerStillClaims }
+    ensures round { ClaimsGoRound }
+    ensures done { NothingLeft }
+    ensures unasked { UnaskedIsNoDelivery }
+    ensures stale { OlderIsStale }
+    ensures taken { Arrival102 }
+    ensures full { Arrival103 }
+{}
+
+/// Worked examples of whole histories.
+pub fn worked_histories()
+    ensures twice { DeliveredTwice }
+    ensures late { DeliveredLate }
+    ensures fault_first { FaultArrivesFirst }
+    ensures any_order { ConflictInAnyOrder }
+{}
+
+/// Worked examples of what a run means and of its text.
+pub fn worked_texts()
+    ensures step { OneStep }
+    ensures fails { SecondStepFails }
+    ensures shown { StepsAreShown }
+    ensures lines { LinesAlone }
+    ensures faults { FaultLines }
 {}

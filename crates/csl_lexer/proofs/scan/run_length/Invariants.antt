@@ -1,4 +1,4 @@
-use Rattle.std.proofs.Common.{◌≤◌, length, take}
+use Rattle.std.proofs.Common.{take}
 use Rattle.std.specs.List.{AllByRecursion}
 use Rattle.csl_lexer.specs.Steps.{IsIn}
 use Rattle.csl_lexer.proofs.scan.run_length.Given as goal

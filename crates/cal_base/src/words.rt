@@ -1,0 +1,36 @@
+//! The words of shared memory as a routine sees them.
+
+ghost use Rattle.std.specs.Prelude.{◌≡◌, ◌<◌, IsTrue, length};
+ghost use Rattle.cal_base.specs.Memory.{Memory, kinds_of, is_ordinary};
+ghost use Rattle.cal_base.specs.Updates.{Written};
+ghost use Rattle.cal_base.specs.Stores.{Routine, read_word, write_word, Adds};
+
+use crate::ends::Overflow;
+
+/// The memory on which a step opened, under what one routine wrote and added itself.
+pub trait Words {
+    ghost opening: { Self → Memory };
+
+    ghost written: { Self → Written };
+
+    /// An ordinary word: what was written last, else the opening value.
+    fn read(&mut self, a: u32) -> i64
+        requires range { a < length (opening self.old) }
+        requires ordinary { IsTrue (is_ordinary (kinds_of (opening self.old)) a) }
+        ensures value { result ≡ read_word (Routine (opening self.old) (written self.old)) a }
+        ensures opening { opening self.new ≡ opening self.old }
+        ensures written { written self.new ≡ written self.old };
+
+    /// Writes an ordinary word.
+    fn write(&mut self, a: u32, v: i64)
+        requires range { a < length (opening self.old) }
+        requires ordinary { IsTrue (is_ordinary (kinds_of (opening self.old)) a) }
+        ensures opening { opening self.new ≡ opening self.old }
+        ensures written { Routine (opening self.new) (written self.new) ≡ write_word (Routine (opening self.old) (written self.old)) a v };
+
+    /// Adds to an ordinary word as it reads, or to the running sum of a tally word. A sum outside 64 bits changes nothing.
+    fn add(&mut self, a: u32, v: i64) -> Result<(), Overflow>
+        requires { a < length (opening self.old) }
+        ensures opening { opening self.new ≡ opening self.old }
+        ensures written { Adds (Routine (opening self.old) (written self.old)) a v (Routine (opening self.new) (written self.new)) result };
+}
