@@ -1,12 +1,9 @@
 -- The parts of statements and declarations: what stands at the front of a token list is one part and one rest.
-use Rattle.std.proofs.Common.{◌≡◌, ◌⊎◌, ℕ, ℤ, Bool, true, false, List, [], ◌∷◌, Some, None, Option, refl, ap, sym, ◌∙◌, subst, arith, inl, inr}
-use Rattle.std.specs.Prelude.{neg_ℤ}
+use Rattle.std.proofs.Common.{◌≡◌, ℕ, Bool, List, ◌∷◌, refl, sym, ◌∙◌, subst}
 use Rattle.csl_tree.specs.declared.name.Name.{Name}
 use Rattle.csl_tree.specs.declared.token.Token.{Token}
 use Rattle.csl_tree.specs.declared.token.TokenKind.{TokenKind}
 use Rattle.csl_tree.specs.declared.token.TokenKind.TheVariants as kind
-use Rattle.csl_tree.specs.declared.token.Keyword.{Keyword}
-use Rattle.csl_tree.specs.declared.token.Keyword.TheVariants as word
 use Rattle.csl_tree.specs.declared.token.Mark.{Mark}
 use Rattle.csl_tree.specs.declared.token.Mark.TheVariants as mark
 use Rattle.csl_tree.specs.declared.program.UnaryOp.{UnaryOp}
@@ -22,8 +19,8 @@ use Rattle.csl_tree.specs.declared.program.Call.{Call}
 use Rattle.csl_tree.specs.declared.program.Item.{Item}
 use Rattle.csl_tree.specs.declared.program.Stmt.{Stmt}
 use Rattle.csl_grammar.specs.Expressions.{SpellsExpr, chain, prefixed, number, truth, named, indexed as indexed_expr, called as called_expr, paren, prefix_mark, whole}
-use Rattle.csl_grammar.specs.Stops.{BeginsOtherThan, Stops, operator_of}
-use Rattle.csl_grammar.specs.Programs.{IsMark, IsWord, IsName, type_word, SpellsPlace, bare, indexed, SpellsCall, called, SpellsDecl, declare, SpellsChange, set, add_to, SpellsItem, text, value, MoreOf, no_more, more, ListOf, nothing, something, SpellsValue, plain, minus, SpellsInitial, unlisted, listed, SpellsShared, scalar, array, tally, SpellsParam, param}
+use Rattle.csl_grammar.specs.Stops.{BeginsOtherThan, Stops}
+use Rattle.csl_grammar.specs.Programs.{IsMark, type_word, SpellsPlace, bare, indexed, SpellsCall, called, SpellsDecl, declare, SpellsChange, set, add_to, SpellsItem, text, value, MoreOf, no_more, more, ListOf, nothing, something, SpellsValue, plain, minus, SpellsInitial, unlisted, listed, SpellsShared, scalar, array, tally, SpellsParam, param}
 use Rattle.csl_grammar.proofs.Unique.{unique, unique_arguments, stops_at, begins_clash}
 
 -- ---- what no expression begins with

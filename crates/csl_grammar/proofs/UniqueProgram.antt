@@ -1,5 +1,5 @@
 -- Statements, functions and programs: what stands at the front of a token list is one tree and one rest.
-use Rattle.std.proofs.Common.{◌≡◌, ◌≤◌, ◌⊎◌, ℕ, ℤ, Bool, true, false, List, [], ◌∷◌, Some, None, Option, refl, ap, sym, ◌∙◌, subst, arith, inl, inr}
+use Rattle.std.proofs.Common.{◌≡◌, ◌≤◌, ℕ, List, [], ◌∷◌, Option, Result, Ok, refl, ap, sym, ◌∙◌, subst, arith}
 use Rattle.csl_tree.specs.declared.name.Name.{Name}
 use Rattle.csl_tree.specs.declared.token.Token.{Token}
 use Rattle.csl_tree.specs.declared.token.TokenKind.{TokenKind}
@@ -15,14 +15,16 @@ use Rattle.csl_tree.specs.declared.program.Gives.TheVariants as gives
 use Rattle.csl_tree.specs.declared.program.Shared.{Shared}
 use Rattle.csl_tree.specs.declared.program.Function.{Function}
 use Rattle.csl_tree.specs.declared.program.Program.{Program}
-use Rattle.csl_tree.specs.declared.program.Expr.{Expr}
 use Rattle.csl_tree.specs.declared.program.Stmt.{Stmt}
 use Rattle.csl_tree.specs.declared.program.Arm.{Arm}
 use Rattle.csl_tree.specs.declared.program.RoutineBlock.{RoutineBlock}
-use Rattle.csl_grammar.specs.Expressions.{SpellsExpr, whole}
+use Rattle.csl_grammar.specs.Expressions.{whole}
 use Rattle.csl_grammar.specs.Stops.{BeginsOtherThan, Stops}
 use Rattle.csl_grammar.specs.Programs.{IsMark, IsWord, IsName, type_word, result_word, SpellsPlace, bare, indexed, SpellsCall, called, SpellsDecl, declare, SpellsChange, set, add_to, SpellsStmt, declared, changed, calls, block, if_else, while_loop, for_loop, break_out, goes_on, returns, returns_value, asserts, prints, parallel, SpellsStart, declares, changes, SpellsBlock, braces, SpellsStmts, none, one_more, SpellsArm, tested, SpellsElse, no_else, else_if, else_block, SpellsRoutine, routine, SpellsRoutines, no_routine, one_routine, SpellsShared, scalar, array, tally, SpellsFunction, function, Each, stop, again, SpellsProgram, program}
 use Rattle.csl_grammar.specs.Spelling.{TokensSpellOne}
+use Rattle.csl_grammar.specs.Texts.{TextSpellsOne}
+use Rattle.csl_lexer.proofs.OneWay.{reads_one_way}
+use Rattle.csl_lexer.specs.declared.LexError.{LexError}
 use Rattle.csl_grammar.proofs.Unique.{unique, begins_clash}
 use Rattle.csl_grammar.proofs.UniqueParts.{unique_call, unique_decl, unique_change, unique_items, unique_shared, unique_params, no_expression, semicolon_begins_none, stops_semicolon, stops_paren, stops_bracket}
 
@@ -360,3 +362,9 @@ unique_program (program w o s c f m b k) (program w' o' s' c' f' m' b' k') e =
 
 pub tokens_spell_one : TokensSpellOne
 tokens_spell_one tokens one two d d' = unique_program d d' refl
+
+same_tokens : (xs ys : List Token) (one two : Result (List Token) LexError) → one ≡ two → one ≡ Ok xs → two ≡ Ok ys → xs ≡ ys
+same_tokens xs ys one two e is is' = cc
+
+pub text_spells_one : TextSpellsOne
+text_spells_one text one two d d' = unique_program d.spelled d'.spelled (same_tokens d.tokens d'.tokens (Ok d.tokens) (Ok d'.tokens) (reads_one_way text (Ok d.tokens) (Ok d'.tokens) d.read d'.read) refl refl)

@@ -1,5 +1,5 @@
 -- The level of each token of a list, which bounds how deeply a text nests.
-use Rattle.std.specs.Prelude.{◌≡◌, ℕ, suc, ◌+◌, ◌≤◌, ◌<◌, List, [], ◌∷◌, ◌++◌}
+use Rattle.std.specs.Prelude.{◌≡◌, ℕ, ◌+◌, ◌≤◌, ◌<◌, List, [], ◌∷◌, ◌++◌}
 use Rattle.csl_tree.specs.declared.token.Token.{Token}
 use Rattle.csl_tree.specs.declared.token.TokenKind.{TokenKind}
 use Rattle.csl_tree.specs.declared.token.TokenKind.TheVariants as kind

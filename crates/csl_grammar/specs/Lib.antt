@@ -3,3 +3,4 @@ pub mod Programs
 pub mod Levels
 pub mod Stops
 pub mod Spelling
+pub mod Texts

@@ -2,7 +2,6 @@
 use Rattle.std.specs.Prelude.{◌≡◌, ℕ, ℤ, pos, neg_ℤ, Bool, true, false, List, [], ◌∷◌, Option, Some, None}
 use Rattle.csl_tree.specs.declared.name.Name.{Name}
 use Rattle.csl_tree.specs.declared.token.Token.{Token}
-use Rattle.csl_tree.specs.declared.token.TokenKind.{TokenKind}
 use Rattle.csl_tree.specs.declared.token.TokenKind.TheVariants as kind
 use Rattle.csl_tree.specs.declared.token.Keyword.{Keyword}
 use Rattle.csl_tree.specs.declared.token.Keyword.TheVariants as word
@@ -13,7 +12,6 @@ use Rattle.csl_tree.specs.declared.program.Ty.TheVariants as ty
 use Rattle.csl_tree.specs.declared.program.Gives.{Gives}
 use Rattle.csl_tree.specs.declared.program.Gives.TheVariants as gives
 use Rattle.cal_base.specs.declared.step.WordKind.TheVariants as words
-use Rattle.csl_tree.specs.declared.program.ArraySize.{ArraySize}
 use Rattle.csl_tree.specs.declared.program.Valued.{Valued}
 use Rattle.csl_tree.specs.declared.program.Shared.{Shared}
 use Rattle.csl_tree.specs.declared.program.Param.{Param}
