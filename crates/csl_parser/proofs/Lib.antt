@@ -3,3 +3,4 @@ pub mod Single
 pub mod Rules
 pub mod Steps
 pub mod Then
+pub mod Declared
