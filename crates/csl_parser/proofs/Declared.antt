@@ -1,5 +1,10 @@
 -- The rules of declarations, each as one part and then another.
-use Rattle.std.proofs.Common.{◌≡◌, ℕ, ℤ, pos, negsuc, Bool, true, false, List, [], ◌∷◌, ◌++◌, Some, None, Option, Result, Ok, Err, refl, ap, sym, ◌∙◌, subst}
+use Rattle.std.proofs.Common.{◌≡◌, ℕ, zero, suc, arith, ℤ, pos, negsuc, ◌-ℤ◌, rules, Bool, true, false, List, [], ◌∷◌, ◌++◌, Some, None, Option, Result, Ok, Err, refl, ap, sym, ◌∙◌, subst}
+use Rattle.std.specs.Prelude.{neg_ℤ}
+use Rattle.std.proofs.Math.IntN.{+ℤ_idl}
+use mir.Val.{SFits, to_z, of_z}
+use mir.Syntax.{w64}
+use Rattle.std.proofs.lemmas.Int.{to_z-of_z}
 use Rattle.csl_tree.specs.declared.name.Name.{Name}
 use Rattle.csl_tree.specs.declared.token.Token.{Token}
 use Rattle.csl_tree.specs.declared.token.TokenKind.{TokenKind}
@@ -13,11 +18,11 @@ use Rattle.csl_parser.specs.declared.ParseError.{ParseError}
 use Rattle.csl_grammar.specs.Stops.{IsEnded, BeginsOtherThan}
 use Rattle.csl_grammar.specs.Programs.{Each, MoreOf, ListOf, nothing, SpellsValue, plain, minus, SpellsInitial, unlisted, listed, SpellsShared, scalar, array, tally}
 use Rattle.csl_grammar.proofs.UniqueParts.{unique_value, unique_values, no_value_closes}
-use Rattle.csl_parser.specs.Reading.{Found, Refused, Fails, Answers, IsToken, Tok, tok, NameTok, name_tok, SizeTok, size_tok, Ret, ret, Then, seq, Either, this, that, ListUntil, behind, stops_anywhere}
+use Rattle.csl_parser.specs.Reading.{Found, Refused, Fails, Answers, IsToken, Tok, tok, NameTok, name_tok, SizeTok, size_tok, Ret, ret, Then, seq, Either, this, that, ListUntil, MoreUntil, behind, number_of, natural_of, if_natural, stops_anywhere}
 use Rattle.csl_parser.specs.Chains.{scalar_of, tally_of, array_of, TallyRest, IntRest, AfterName, ArrayRest, AfterSize, ListedRest}
 use Rattle.csl_parser.proofs.Sequence.{Passes, Same, passes_same, passes_behind, passes_through, passed, passed_error, refused_here}
 use Rattle.csl_parser.proofs.Single.{some_token, ended_behind, token_found}
-use Rattle.csl_parser.proofs.Then.{Completes, Follows, completes_ret, completes_tok, completes_name, completes_size, completes_then, completes_this, completes_list, tok_follows, name_follows, size_follows, then_passes, tok_found, passes_this, passes_that, begins_other, no_name}
+use Rattle.csl_parser.proofs.Then.{Completes, Follows, completes_ret, completes_tok, completes_name, completes_size, completes_then, completes_this, completes_list, tok_follows, name_follows, size_follows, then_passes, tok_found, passes_this, passes_that, begins_other, no_name, list_nothing, list_err, list_begun, more_err, more_step, last_err, last_ok}
 
 -- ---- what completes a declaration
 
@@ -157,3 +162,97 @@ some_value = record {
   some = λ others. plain refl;
 }
 
+number_is : (k : TokenKind) (n : ℤ) → number_of k ≡ Some n → k ≡ kind.Number n
+number_is (kind.Word w) n e = cc
+number_is (kind.Named x) n e = cc
+number_is (kind.Number m) n e = cc
+number_is (kind.Text t) n e = cc
+number_is (kind.Mark m) n e = cc
+number_is kind.End n e = cc
+
+pub value_found : (tokens : List Token) (first : Token) (rest : List Token) (n : ℤ) → IsEnded tokens → tokens ≡ first ∷ rest → number_of first.kind ≡ Some n → Found SpellsValue stops_anywhere tokens rest (record { at = first.at; number = n })
+value_found tokens first rest n ended split is = let same : first.kind ≡ kind.Number n = number_is first.kind n is in record {
+  read = first ∷ [];
+  split = split;
+  spelled = λ others. plain same;
+  stopped = tt;
+  ended = ended_behind tokens first rest ended split (λ h. cc);
+}
+
+no_value_here : {first : Token} {all ts r : List Token} {v : Valued} → SpellsValue all r v → all ≡ first ∷ ts → (first.kind ≡ kind.Mark mark.Minus → ⊥) → number_of first.kind ≡ None → ⊥
+no_value_here (plain {n = n} k) e m none = let at : number_of (kind.Number n) ≡ None = cc in cc
+no_value_here (minus s k) e m none = m (cc)
+
+pub value_refused : (tokens : List Token) (first : Token) (rest : List Token) → tokens ≡ first ∷ rest → (first.kind ≡ kind.Mark mark.Minus → ⊥) → number_of first.kind ≡ None → Refused SpellsValue stops_anywhere tokens first.at
+value_refused tokens first rest split m none =
+    let at : List Token → Type 0 = λ x. Refused SpellsValue stops_anywhere x first.at in
+    subst at (sym split) (refused_here SpellsValue stops_anywhere first rest (λ others r v d h. no_value_here d refl m none) some_value.ending some_value.finished some_value.some)
+
+-- what a natural number of a token says of it
+natural_is : (o : Option ℤ) (n : ℤ) → if_natural o ≡ Some n → (m : ℕ) × (o ≡ Some (pos m)) × (n ≡ pos m)
+natural_is None n e = absurd (cc)
+natural_is (Some (pos m)) n e = (m, refl, cc)
+natural_is (Some (negsuc m)) n e = absurd (cc)
+
+minus_natural : (m : ℕ) → SFits w64 (pos m) → SFits w64 (neg_ℤ (pos m))
+minus_natural zero fits = fits
+minus_natural (suc m) fits = grind (arith, fits)
+
+-- a natural number of 64 bits has its negative there
+pub negated : (n : ℤ) (k : TokenKind) → natural_of k ≡ Some n → SFits w64 n → to_z w64 (of_z w64 (pos 0 -ℤ n)) ≡ neg_ℤ n
+negated n k found fits =
+    let h : _ × _ × _ = natural_is (number_of k) n found in
+    let fits_at : ℤ → Type 0 = λ x. SFits w64 x in
+    let at : ℤ → Type 0 = λ x. to_z w64 (of_z w64 (pos 0 -ℤ x)) ≡ neg_ℤ x in
+    subst at (sym h.2) (ap (λ x. to_z w64 (of_z w64 x)) (+ℤ_idl (neg_ℤ (pos h.0))) ∙ to_z-of_z w64 (neg_ℤ (pos h.0)) (minus_natural h.0 (subst fits_at h.2 fits)))
+
+pub negative_found : (sign : Token) (tokens : List Token) (first : Token) (rest : List Token) (n : ℤ) → sign.kind ≡ kind.Mark mark.Minus → IsEnded tokens → tokens ≡ first ∷ rest → natural_of first.kind ≡ Some n → Found (behind sign SpellsValue) stops_anywhere tokens rest (record { at = sign.at; number = neg_ℤ n })
+negative_found sign tokens first rest n s ended split is =
+    let h : _ × _ × _ = natural_is (number_of first.kind) n is in
+    let same : first.kind ≡ kind.Number (pos h.0) = number_is first.kind (pos h.0) h.1 in
+    let at : ℤ → Type 0 = λ x. Found (behind sign SpellsValue) stops_anywhere tokens rest (record { at = sign.at; number = neg_ℤ x }) in
+    subst at (sym h.2) (record {
+      read = first ∷ [];
+      split = split;
+      spelled = λ others. minus s same;
+      stopped = tt;
+      ended = ended_behind tokens first rest ended split (λ e. cc);
+    })
+
+no_negative_here : {sign first : Token} {all ts r : List Token} {v : Valued} → SpellsValue all r v → all ≡ sign ∷ first ∷ ts → sign.kind ≡ kind.Mark mark.Minus → natural_of first.kind ≡ None → ⊥
+no_negative_here (plain {n = n} k) e m none = cc
+no_negative_here (minus {n = n} s k) e m none = let at : natural_of (kind.Number (pos n)) ≡ None = cc in cc
+
+pub negative_refused : (sign : Token) (tokens : List Token) (first : Token) (rest : List Token) → sign.kind ≡ kind.Mark mark.Minus → tokens ≡ first ∷ rest → natural_of first.kind ≡ None → Refused (behind sign SpellsValue) stops_anywhere tokens first.at
+negative_refused sign tokens first rest s split none =
+    let at : List Token → Type 0 = λ x. Refused (behind sign SpellsValue) stops_anywhere x first.at in
+    subst at (sym split) (refused_here (behind sign SpellsValue) stops_anywhere first rest (λ others r v d h. no_negative_here d refl s none)
+      (some_token (kind.Number (pos 0)) ∷ []) (record { at = sign.at; number = neg_ℤ (pos 0) }) (λ others. minus s refl))
+
+once : (tokens middle middle' : List Token) (x x' : Valued) → SpellsValue tokens middle x → SpellsValue tokens middle' x' → stops_anywhere middle → stops_anywhere middle' → (middle ≡ middle') × (x ≡ x')
+once tokens middle middle' x x' d d' s s' = unique_value d d' refl
+
+abbrev brace : TokenKind
+brace = kind.Mark mark.CloseBrace
+
+pub values_nothing : (tokens : List Token) (first : Token) (rest : List Token) → IsEnded tokens → tokens ≡ first ∷ rest → first.kind ≡ brace → Found (ListUntil brace SpellsValue) stops_anywhere tokens rest []
+values_nothing tokens first rest ended split same =
+    list_nothing brace SpellsValue stops_anywhere once (λ _ _ _ _. tt) (λ _ _ _ _ _ d. no_value_closes d) (λ _ _ _. tt) (λ _ _ _. tt) (λ h. cc) some_value tokens first rest ended split same (λ h. cc)
+
+pub values_err : (tokens : List Token) (e : ParseError) → BeginsOtherThan brace tokens → Fails SpellsValue stops_anywhere tokens e → Fails (ListUntil brace SpellsValue) stops_anywhere tokens e
+values_err = list_err brace SpellsValue stops_anywhere once (λ _ _ _ _. tt) (λ _ _ _ _ _ d. no_value_closes d) (λ _ _ _. tt) (λ _ _ _. tt) (λ h. cc) some_value
+
+pub values_begun : (tokens middle : List Token) (x : Valued) → BeginsOtherThan brace tokens → Found SpellsValue stops_anywhere tokens middle x → Passes (MoreUntil brace SpellsValue (x ∷ [])) (ListUntil brace SpellsValue) stops_anywhere middle tokens
+values_begun = list_begun brace SpellsValue stops_anywhere once (λ _ _ _ _. tt) (λ _ _ _ _ _ d. no_value_closes d) (λ _ _ _. tt) (λ _ _ _. tt) (λ h. cc) some_value
+
+pub values_more_err : (sofar : List Valued) (tokens : List Token) (comma : Token) (rest : List Token) (e : ParseError) → IsEnded tokens → tokens ≡ comma ∷ rest → comma.kind ≡ kind.Mark mark.Comma → Fails SpellsValue stops_anywhere rest e → Fails (MoreUntil brace SpellsValue sofar) stops_anywhere tokens e
+values_more_err = more_err brace SpellsValue stops_anywhere once (λ _ _ _ _. tt) (λ _ _ _ _ _ d. no_value_closes d) (λ _ _ _. tt) (λ _ _ _. tt) (λ h. cc) some_value
+
+pub values_more : (sofar : List Valued) (tokens : List Token) (comma : Token) (rest middle : List Token) (x : Valued) → IsEnded tokens → tokens ≡ comma ∷ rest → comma.kind ≡ kind.Mark mark.Comma → Found SpellsValue stops_anywhere rest middle x → Passes (MoreUntil brace SpellsValue (sofar ++ x ∷ [])) (MoreUntil brace SpellsValue sofar) stops_anywhere middle tokens
+values_more = more_step brace SpellsValue stops_anywhere once (λ _ _ _ _. tt) (λ _ _ _ _ _ d. no_value_closes d) (λ _ _ _. tt) (λ _ _ _. tt) (λ h. cc) some_value
+
+pub values_last_err : (sofar : List Valued) (tokens : List Token) (e : ParseError) → BeginsOtherThan (kind.Mark mark.Comma) tokens → Fails (IsToken brace) stops_anywhere tokens e → Fails (MoreUntil brace SpellsValue sofar) stops_anywhere tokens e
+values_last_err = last_err brace SpellsValue stops_anywhere once (λ _ _ _ _. tt) (λ _ _ _ _ _ d. no_value_closes d) (λ _ _ _. tt) (λ _ _ _. tt) (λ h. cc) some_value
+
+pub values_last : (sofar : List Valued) (tokens rest : List Token) (closing : Token) → BeginsOtherThan (kind.Mark mark.Comma) tokens → Found (IsToken brace) stops_anywhere tokens rest closing → Found (MoreUntil brace SpellsValue sofar) stops_anywhere tokens rest sofar
+values_last = last_ok brace SpellsValue stops_anywhere once (λ _ _ _ _. tt) (λ _ _ _ _ _ d. no_value_closes d) (λ _ _ _. tt) (λ _ _ _. tt) (λ h. cc) some_value
