@@ -14,3 +14,5 @@ pub mod History
 pub mod Claims
 pub mod Main
 pub mod Text
+pub mod Printing
+pub mod Widths

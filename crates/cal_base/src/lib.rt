@@ -32,4 +32,6 @@ pub use whole::{append_all, write_all};
 pub use words::Words;
 
 #[cfg(test)]
+mod data_tests;
+#[cfg(test)]
 mod tests;

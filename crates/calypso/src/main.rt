@@ -3,9 +3,8 @@
 
 use cal_base::{HostFiles, HostSink, OpenGate};
 use calypso_cli::{calypso, out_of_memory};
-use std::env;
-use std::io;
 use std::process::ExitCode;
+use std::{env, io};
 
 // The words of the command line, without the program's own name.
 fn words(rt: &HostRuntime) -> io::Result<Vec<String>> {
@@ -28,7 +27,15 @@ fn main(rt: HostRuntime) -> ExitCode {
         Some(words) => {
             let mut files = HostFiles::make(&rt);
             let mut out = HostSink::out(&rt);
-            calypso(&rt, rt.alloc(), &words, &mut files, &mut out, &mut err, &OpenGate)
+            calypso(
+                &rt,
+                rt.alloc(),
+                &words,
+                &mut files,
+                &mut out,
+                &mut err,
+                &OpenGate,
+            )
         }
         None => out_of_memory(&mut err),
     };

@@ -1,5 +1,5 @@
 -- What holds where nothing was done but to tell why.
-use Rattle.std.proofs.Common.{◌≡◌, None, Some, refl}
+use Rattle.std.proofs.Common.{None, Some, refl}
 use Rattle.std.specs.declared.option.Option.{Option}
 use Rattle.cal_base.specs.Contents.{Contents, Told, SameFiles}
 

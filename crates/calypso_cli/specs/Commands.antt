@@ -1,5 +1,5 @@
 -- What the words of the command line give, and what a command comes to. A command joins by one case of each definition.
-use Rattle.std.specs.Prelude.{ℕ, None, List, []}
+use Rattle.std.specs.Prelude.{ℕ, None, List}
 use Rattle.std.specs.declared.option.Option.{Option}
 use Rattle.cal_base.specs.Contents.{Contents}
 use Rattle.calypso_cli.specs.Endings.{Ending}

@@ -1,11 +1,11 @@
 -- What the top call promises. No sentence here names a command: each speaks by the tables of commands and of endings.
-use Rattle.std.specs.Prelude.{◌≡◌, ◌≢◌, ◌⊎◌, ◌≤◌, ℕ, None, Some, List, [], ◌++◌, Contains}
+use Rattle.std.specs.Prelude.{◌≡◌, ◌⊎◌, ◌≤◌, ℕ, None, Some, List, [], ◌++◌, Contains}
 use Rattle.std.specs.declared.option.Option.{Option}
 use Rattle.std.specs.Io.{StartsWith}
 use Rattle.std.specs.Io.KnownBytes.{Appends}
 use Rattle.cal_base.specs.Causes.{Rose, IsQuiet}
 use Rattle.cal_base.specs.Contents.{Contents, Told, SameFiles, AppendsPrefix}
-use Rattle.calypso_cli.specs.Endings.{Ending, done, no_command, cannot_use, fault, no_memory, output_failed, too_long, status_of, err_text}
+use Rattle.calypso_cli.specs.Endings.{Ending, no_command, cannot_use, no_memory, output_failed, status_of, err_text}
 use Rattle.calypso_cli.specs.Commands.{Command, command_of, IsLoaded, IsWritten, CanEnd, Outcome, outcome_of, MayReport, MayTell}
 
 -- what the outside tells at a moment, and its counts of faults
@@ -78,7 +78,7 @@ pub record RunsAs (command : Command) (contents : Contents) (before after : Outs
   pub fronts : HoldsFronts command contents after.files
   -- where no count of faults of the files or of out rose, the call ends as the outcome says, or by want of memory
   pub complete : IsQuiet before.file_faults after.file_faults → IsQuiet before.out_faults after.out_faults
-    → (ending ≡ no_memory) ⊎ (ending ≡ (outcome_of command contents).ending)
+      → (ending ≡ no_memory) ⊎ (ending ≡ (outcome_of command contents).ending)
 
 -- The promise of a call that carries out a command and answers this status: one ending, to which everything is tied.
 pub record DoesCommand (command : Command) (before after : Outside) (status : ℕ) : Type 0 where

@@ -6,4 +6,3 @@ mod top;
 
 pub use ending::Ending;
 pub use top::{calypso, out_of_memory};
-

@@ -45,10 +45,22 @@ pub fn calypso<R: Threads + Wait + Sync, F: Files, S: Sink, E: Sink, G: Gate>(
 ) -> u8
     requires { MayDo F.may_load F.may_write (map string_bytes words.now) }
     ensures { KeepsPromise (map string_bytes words.now)
-        (record { files = F.holds files.old; out = S.written out.old; err = E.written err.old;
-            file_faults = F.faults files.old; out_faults = S.faults out.old; err_faults = E.faults err.old })
-        (record { files = F.holds files.new; out = S.written out.new; err = E.written err.new;
-            file_faults = F.faults files.new; out_faults = S.faults out.new; err_faults = E.faults err.new })
+        (record {
+          files = F.holds files.old;
+          out = S.written out.old;
+          err = E.written err.old;
+          file_faults = F.faults files.old;
+          out_faults = S.faults out.old;
+          err_faults = E.faults err.old;
+        })
+        (record {
+          files = F.holds files.new;
+          out = S.written out.new;
+          err = E.written err.new;
+          file_faults = F.faults files.new;
+          out_faults = S.faults out.new;
+          err_faults = E.faults err.new;
+        })
         result }
 {
     conclude(Ending::NoCommand, err)

@@ -1,5 +1,5 @@
 -- The longest item at the front of some bytes, for each kind of item.
-use Rattle.std.proofs.Common.{◌≡◌, ◌≢◌, ◌≤◌, ◌<◌, ◌+◌, inl, inr, ℕ, suc, List, [], ◌∷◌, ◌++◌, length, refl, ap, sym, ◌∙◌, subst, arith, append_assoc, length-append, drop}
+use Rattle.std.proofs.Common.{◌≡◌, ◌≢◌, ◌≤◌, ◌<◌, ◌+◌, inl, inr, ℕ, suc, List, [], ◌∷◌, ◌++◌, length, refl, ap, sym, ◌∙◌, subst, arith, append_assoc, length-append, drop, ◌⊎◌}
 use Rattle.std.specs.List.{AllByRecursion}
 use Rattle.csl_tree.specs.declared.token.Mark.{Mark}
 use Rattle.csl_tree.specs.declared.token.Mark.TheVariants as mark
@@ -29,158 +29,70 @@ blank_high b (inr (inl h)) = omega arith
 blank_high b (inr (inr (inl h))) = omega arith
 blank_high b (inr (inr (inr h))) = omega arith
 
-pub mark_no_letter : (m : Mark) (b : ℕ) (tail behind : List ℕ) → b ∷ tail ≡ spelled m ++ behind → IsLetter b → ⊥
-mark_no_letter mark.OpenBrace b tail behind e (inl h) = let same : b ≡ 123 = cc in omega arith
-mark_no_letter mark.OpenBrace b tail behind e (inr (inl h)) = let same : b ≡ 123 = cc in omega arith
-mark_no_letter mark.OpenBrace b tail behind e (inr (inr h)) = let same : b ≡ 123 = cc in omega arith
-mark_no_letter mark.CloseBrace b tail behind e (inl h) = let same : b ≡ 125 = cc in omega arith
-mark_no_letter mark.CloseBrace b tail behind e (inr (inl h)) = let same : b ≡ 125 = cc in omega arith
-mark_no_letter mark.CloseBrace b tail behind e (inr (inr h)) = let same : b ≡ 125 = cc in omega arith
-mark_no_letter mark.OpenParen b tail behind e (inl h) = let same : b ≡ 40 = cc in omega arith
-mark_no_letter mark.OpenParen b tail behind e (inr (inl h)) = let same : b ≡ 40 = cc in omega arith
-mark_no_letter mark.OpenParen b tail behind e (inr (inr h)) = let same : b ≡ 40 = cc in omega arith
-mark_no_letter mark.CloseParen b tail behind e (inl h) = let same : b ≡ 41 = cc in omega arith
-mark_no_letter mark.CloseParen b tail behind e (inr (inl h)) = let same : b ≡ 41 = cc in omega arith
-mark_no_letter mark.CloseParen b tail behind e (inr (inr h)) = let same : b ≡ 41 = cc in omega arith
-mark_no_letter mark.OpenBracket b tail behind e (inl h) = let same : b ≡ 91 = cc in omega arith
-mark_no_letter mark.OpenBracket b tail behind e (inr (inl h)) = let same : b ≡ 91 = cc in omega arith
-mark_no_letter mark.OpenBracket b tail behind e (inr (inr h)) = let same : b ≡ 91 = cc in omega arith
-mark_no_letter mark.CloseBracket b tail behind e (inl h) = let same : b ≡ 93 = cc in omega arith
-mark_no_letter mark.CloseBracket b tail behind e (inr (inl h)) = let same : b ≡ 93 = cc in omega arith
-mark_no_letter mark.CloseBracket b tail behind e (inr (inr h)) = let same : b ≡ 93 = cc in omega arith
-mark_no_letter mark.Comma b tail behind e (inl h) = let same : b ≡ 44 = cc in omega arith
-mark_no_letter mark.Comma b tail behind e (inr (inl h)) = let same : b ≡ 44 = cc in omega arith
-mark_no_letter mark.Comma b tail behind e (inr (inr h)) = let same : b ≡ 44 = cc in omega arith
-mark_no_letter mark.Semicolon b tail behind e (inl h) = let same : b ≡ 59 = cc in omega arith
-mark_no_letter mark.Semicolon b tail behind e (inr (inl h)) = let same : b ≡ 59 = cc in omega arith
-mark_no_letter mark.Semicolon b tail behind e (inr (inr h)) = let same : b ≡ 59 = cc in omega arith
-mark_no_letter mark.Assign b tail behind e (inl h) = let same : b ≡ 61 = cc in omega arith
-mark_no_letter mark.Assign b tail behind e (inr (inl h)) = let same : b ≡ 61 = cc in omega arith
-mark_no_letter mark.Assign b tail behind e (inr (inr h)) = let same : b ≡ 61 = cc in omega arith
-mark_no_letter mark.AddAssign b tail behind e (inl h) = let same : b ≡ 43 = cc in omega arith
-mark_no_letter mark.AddAssign b tail behind e (inr (inl h)) = let same : b ≡ 43 = cc in omega arith
-mark_no_letter mark.AddAssign b tail behind e (inr (inr h)) = let same : b ≡ 43 = cc in omega arith
-mark_no_letter mark.Plus b tail behind e (inl h) = let same : b ≡ 43 = cc in omega arith
-mark_no_letter mark.Plus b tail behind e (inr (inl h)) = let same : b ≡ 43 = cc in omega arith
-mark_no_letter mark.Plus b tail behind e (inr (inr h)) = let same : b ≡ 43 = cc in omega arith
-mark_no_letter mark.Minus b tail behind e (inl h) = let same : b ≡ 45 = cc in omega arith
-mark_no_letter mark.Minus b tail behind e (inr (inl h)) = let same : b ≡ 45 = cc in omega arith
-mark_no_letter mark.Minus b tail behind e (inr (inr h)) = let same : b ≡ 45 = cc in omega arith
-mark_no_letter mark.Star b tail behind e (inl h) = let same : b ≡ 42 = cc in omega arith
-mark_no_letter mark.Star b tail behind e (inr (inl h)) = let same : b ≡ 42 = cc in omega arith
-mark_no_letter mark.Star b tail behind e (inr (inr h)) = let same : b ≡ 42 = cc in omega arith
-mark_no_letter mark.Slash b tail behind e (inl h) = let same : b ≡ 47 = cc in omega arith
-mark_no_letter mark.Slash b tail behind e (inr (inl h)) = let same : b ≡ 47 = cc in omega arith
-mark_no_letter mark.Slash b tail behind e (inr (inr h)) = let same : b ≡ 47 = cc in omega arith
-mark_no_letter mark.Percent b tail behind e (inl h) = let same : b ≡ 37 = cc in omega arith
-mark_no_letter mark.Percent b tail behind e (inr (inl h)) = let same : b ≡ 37 = cc in omega arith
-mark_no_letter mark.Percent b tail behind e (inr (inr h)) = let same : b ≡ 37 = cc in omega arith
-mark_no_letter mark.Bang b tail behind e (inl h) = let same : b ≡ 33 = cc in omega arith
-mark_no_letter mark.Bang b tail behind e (inr (inl h)) = let same : b ≡ 33 = cc in omega arith
-mark_no_letter mark.Bang b tail behind e (inr (inr h)) = let same : b ≡ 33 = cc in omega arith
-mark_no_letter mark.Equal b tail behind e (inl h) = let same : b ≡ 61 = cc in omega arith
-mark_no_letter mark.Equal b tail behind e (inr (inl h)) = let same : b ≡ 61 = cc in omega arith
-mark_no_letter mark.Equal b tail behind e (inr (inr h)) = let same : b ≡ 61 = cc in omega arith
-mark_no_letter mark.NotEqual b tail behind e (inl h) = let same : b ≡ 33 = cc in omega arith
-mark_no_letter mark.NotEqual b tail behind e (inr (inl h)) = let same : b ≡ 33 = cc in omega arith
-mark_no_letter mark.NotEqual b tail behind e (inr (inr h)) = let same : b ≡ 33 = cc in omega arith
-mark_no_letter mark.Less b tail behind e (inl h) = let same : b ≡ 60 = cc in omega arith
-mark_no_letter mark.Less b tail behind e (inr (inl h)) = let same : b ≡ 60 = cc in omega arith
-mark_no_letter mark.Less b tail behind e (inr (inr h)) = let same : b ≡ 60 = cc in omega arith
-mark_no_letter mark.LessEqual b tail behind e (inl h) = let same : b ≡ 60 = cc in omega arith
-mark_no_letter mark.LessEqual b tail behind e (inr (inl h)) = let same : b ≡ 60 = cc in omega arith
-mark_no_letter mark.LessEqual b tail behind e (inr (inr h)) = let same : b ≡ 60 = cc in omega arith
-mark_no_letter mark.Greater b tail behind e (inl h) = let same : b ≡ 62 = cc in omega arith
-mark_no_letter mark.Greater b tail behind e (inr (inl h)) = let same : b ≡ 62 = cc in omega arith
-mark_no_letter mark.Greater b tail behind e (inr (inr h)) = let same : b ≡ 62 = cc in omega arith
-mark_no_letter mark.GreaterEqual b tail behind e (inl h) = let same : b ≡ 62 = cc in omega arith
-mark_no_letter mark.GreaterEqual b tail behind e (inr (inl h)) = let same : b ≡ 62 = cc in omega arith
-mark_no_letter mark.GreaterEqual b tail behind e (inr (inr h)) = let same : b ≡ 62 = cc in omega arith
-mark_no_letter mark.AndAnd b tail behind e (inl h) = let same : b ≡ 38 = cc in omega arith
-mark_no_letter mark.AndAnd b tail behind e (inr (inl h)) = let same : b ≡ 38 = cc in omega arith
-mark_no_letter mark.AndAnd b tail behind e (inr (inr h)) = let same : b ≡ 38 = cc in omega arith
-mark_no_letter mark.OrOr b tail behind e (inl h) = let same : b ≡ 124 = cc in omega arith
-mark_no_letter mark.OrOr b tail behind e (inr (inl h)) = let same : b ≡ 124 = cc in omega arith
-mark_no_letter mark.OrOr b tail behind e (inr (inr h)) = let same : b ≡ 124 = cc in omega arith
+-- between the ranges of letters stands no letter
+no_letter : (b : ℕ) → (b < 65) ⊎ ((90 < b) × (b < 95)) ⊎ (122 < b) → IsLetter b → ⊥
+no_letter b (inl h) (inl l) = omega arith
+no_letter b (inl h) (inr (inl l)) = omega arith
+no_letter b (inl h) (inr (inr l)) = omega arith
+no_letter b (inr (inl h)) (inl l) = omega arith
+no_letter b (inr (inl h)) (inr (inl l)) = omega arith
+no_letter b (inr (inl h)) (inr (inr l)) = omega arith
+no_letter b (inr (inr h)) (inl l) = omega arith
+no_letter b (inr (inr h)) (inr (inl l)) = omega arith
+no_letter b (inr (inr h)) (inr (inr l)) = omega arith
 
--- no mark begins with a blank, a quote or a digit
-pub mark_front : (m : Mark) (b : ℕ) (tail behind : List ℕ) → b ∷ tail ≡ spelled m ++ behind → (33 ≤ b) × (b ≢ 34) × (IsDigit b → ⊥)
-mark_front mark.OpenBrace b tail behind e = let same : b ≡ 123 = cc in (omega arith, λ h. omega arith, λ h. omega arith)
-mark_front mark.CloseBrace b tail behind e = let same : b ≡ 125 = cc in (omega arith, λ h. omega arith, λ h. omega arith)
-mark_front mark.OpenParen b tail behind e = let same : b ≡ 40 = cc in (omega arith, λ h. omega arith, λ h. omega arith)
-mark_front mark.CloseParen b tail behind e = let same : b ≡ 41 = cc in (omega arith, λ h. omega arith, λ h. omega arith)
-mark_front mark.OpenBracket b tail behind e = let same : b ≡ 91 = cc in (omega arith, λ h. omega arith, λ h. omega arith)
-mark_front mark.CloseBracket b tail behind e = let same : b ≡ 93 = cc in (omega arith, λ h. omega arith, λ h. omega arith)
-mark_front mark.Comma b tail behind e = let same : b ≡ 44 = cc in (omega arith, λ h. omega arith, λ h. omega arith)
-mark_front mark.Semicolon b tail behind e = let same : b ≡ 59 = cc in (omega arith, λ h. omega arith, λ h. omega arith)
-mark_front mark.Assign b tail behind e = let same : b ≡ 61 = cc in (omega arith, λ h. omega arith, λ h. omega arith)
-mark_front mark.AddAssign b tail behind e = let same : b ≡ 43 = cc in (omega arith, λ h. omega arith, λ h. omega arith)
-mark_front mark.Plus b tail behind e = let same : b ≡ 43 = cc in (omega arith, λ h. omega arith, λ h. omega arith)
-mark_front mark.Minus b tail behind e = let same : b ≡ 45 = cc in (omega arith, λ h. omega arith, λ h. omega arith)
-mark_front mark.Star b tail behind e = let same : b ≡ 42 = cc in (omega arith, λ h. omega arith, λ h. omega arith)
-mark_front mark.Slash b tail behind e = let same : b ≡ 47 = cc in (omega arith, λ h. omega arith, λ h. omega arith)
-mark_front mark.Percent b tail behind e = let same : b ≡ 37 = cc in (omega arith, λ h. omega arith, λ h. omega arith)
-mark_front mark.Bang b tail behind e = let same : b ≡ 33 = cc in (omega arith, λ h. omega arith, λ h. omega arith)
-mark_front mark.Equal b tail behind e = let same : b ≡ 61 = cc in (omega arith, λ h. omega arith, λ h. omega arith)
-mark_front mark.NotEqual b tail behind e = let same : b ≡ 33 = cc in (omega arith, λ h. omega arith, λ h. omega arith)
-mark_front mark.Less b tail behind e = let same : b ≡ 60 = cc in (omega arith, λ h. omega arith, λ h. omega arith)
-mark_front mark.LessEqual b tail behind e = let same : b ≡ 60 = cc in (omega arith, λ h. omega arith, λ h. omega arith)
-mark_front mark.Greater b tail behind e = let same : b ≡ 62 = cc in (omega arith, λ h. omega arith, λ h. omega arith)
-mark_front mark.GreaterEqual b tail behind e = let same : b ≡ 62 = cc in (omega arith, λ h. omega arith, λ h. omega arith)
-mark_front mark.AndAnd b tail behind e = let same : b ≡ 38 = cc in (omega arith, λ h. omega arith, λ h. omega arith)
-mark_front mark.OrOr b tail behind e = let same : b ≡ 124 = cc in (omega arith, λ h. omega arith, λ h. omega arith)
+-- no mark begins with a blank, a quote, a digit or a letter
+pub mark_front : (m : Mark) (b : ℕ) (tail behind : List ℕ) → b ∷ tail ≡ spelled m ++ behind → (33 ≤ b) × (b ≢ 34) × (IsDigit b → ⊥) × (IsLetter b → ⊥)
+mark_front mark.OpenBrace b tail behind e = let same : b ≡ 123 = cc in (omega arith, λ h. omega arith, λ h. omega arith, no_letter b (inr (inr (omega arith))))
+mark_front mark.CloseBrace b tail behind e = let same : b ≡ 125 = cc in (omega arith, λ h. omega arith, λ h. omega arith, no_letter b (inr (inr (omega arith))))
+mark_front mark.OpenParen b tail behind e = let same : b ≡ 40 = cc in (omega arith, λ h. omega arith, λ h. omega arith, no_letter b (inl (omega arith)))
+mark_front mark.CloseParen b tail behind e = let same : b ≡ 41 = cc in (omega arith, λ h. omega arith, λ h. omega arith, no_letter b (inl (omega arith)))
+mark_front mark.OpenBracket b tail behind e = let same : b ≡ 91 = cc in (omega arith, λ h. omega arith, λ h. omega arith, no_letter b (inr (inl (omega arith, omega arith))))
+mark_front mark.CloseBracket b tail behind e = let same : b ≡ 93 = cc in (omega arith, λ h. omega arith, λ h. omega arith, no_letter b (inr (inl (omega arith, omega arith))))
+mark_front mark.Comma b tail behind e = let same : b ≡ 44 = cc in (omega arith, λ h. omega arith, λ h. omega arith, no_letter b (inl (omega arith)))
+mark_front mark.Semicolon b tail behind e = let same : b ≡ 59 = cc in (omega arith, λ h. omega arith, λ h. omega arith, no_letter b (inl (omega arith)))
+mark_front mark.Assign b tail behind e = let same : b ≡ 61 = cc in (omega arith, λ h. omega arith, λ h. omega arith, no_letter b (inl (omega arith)))
+mark_front mark.AddAssign b tail behind e = let same : b ≡ 43 = cc in (omega arith, λ h. omega arith, λ h. omega arith, no_letter b (inl (omega arith)))
+mark_front mark.Plus b tail behind e = let same : b ≡ 43 = cc in (omega arith, λ h. omega arith, λ h. omega arith, no_letter b (inl (omega arith)))
+mark_front mark.Minus b tail behind e = let same : b ≡ 45 = cc in (omega arith, λ h. omega arith, λ h. omega arith, no_letter b (inl (omega arith)))
+mark_front mark.Star b tail behind e = let same : b ≡ 42 = cc in (omega arith, λ h. omega arith, λ h. omega arith, no_letter b (inl (omega arith)))
+mark_front mark.Slash b tail behind e = let same : b ≡ 47 = cc in (omega arith, λ h. omega arith, λ h. omega arith, no_letter b (inl (omega arith)))
+mark_front mark.Percent b tail behind e = let same : b ≡ 37 = cc in (omega arith, λ h. omega arith, λ h. omega arith, no_letter b (inl (omega arith)))
+mark_front mark.Bang b tail behind e = let same : b ≡ 33 = cc in (omega arith, λ h. omega arith, λ h. omega arith, no_letter b (inl (omega arith)))
+mark_front mark.Equal b tail behind e = let same : b ≡ 61 = cc in (omega arith, λ h. omega arith, λ h. omega arith, no_letter b (inl (omega arith)))
+mark_front mark.NotEqual b tail behind e = let same : b ≡ 33 = cc in (omega arith, λ h. omega arith, λ h. omega arith, no_letter b (inl (omega arith)))
+mark_front mark.Less b tail behind e = let same : b ≡ 60 = cc in (omega arith, λ h. omega arith, λ h. omega arith, no_letter b (inl (omega arith)))
+mark_front mark.LessEqual b tail behind e = let same : b ≡ 60 = cc in (omega arith, λ h. omega arith, λ h. omega arith, no_letter b (inl (omega arith)))
+mark_front mark.Greater b tail behind e = let same : b ≡ 62 = cc in (omega arith, λ h. omega arith, λ h. omega arith, no_letter b (inl (omega arith)))
+mark_front mark.GreaterEqual b tail behind e = let same : b ≡ 62 = cc in (omega arith, λ h. omega arith, λ h. omega arith, no_letter b (inl (omega arith)))
+mark_front mark.AndAnd b tail behind e = let same : b ≡ 38 = cc in (omega arith, λ h. omega arith, λ h. omega arith, no_letter b (inl (omega arith)))
+mark_front mark.OrOr b tail behind e = let same : b ≡ 124 = cc in (omega arith, λ h. omega arith, λ h. omega arith, no_letter b (inr (inr (omega arith))))
 
-mark_short : (m : Mark) → length (spelled m) ≤ 2
-mark_short mark.OpenBrace = omega arith
-mark_short mark.CloseBrace = omega arith
-mark_short mark.OpenParen = omega arith
-mark_short mark.CloseParen = omega arith
-mark_short mark.OpenBracket = omega arith
-mark_short mark.CloseBracket = omega arith
-mark_short mark.Comma = omega arith
-mark_short mark.Semicolon = omega arith
-mark_short mark.Assign = omega arith
-mark_short mark.AddAssign = omega arith
-mark_short mark.Plus = omega arith
-mark_short mark.Minus = omega arith
-mark_short mark.Star = omega arith
-mark_short mark.Slash = omega arith
-mark_short mark.Percent = omega arith
-mark_short mark.Bang = omega arith
-mark_short mark.Equal = omega arith
-mark_short mark.NotEqual = omega arith
-mark_short mark.Less = omega arith
-mark_short mark.LessEqual = omega arith
-mark_short mark.Greater = omega arith
-mark_short mark.GreaterEqual = omega arith
-mark_short mark.AndAnd = omega arith
-mark_short mark.OrOr = omega arith
-
-mark_some : (m : Mark) → 0 < length (spelled m)
-mark_some mark.OpenBrace = omega arith
-mark_some mark.CloseBrace = omega arith
-mark_some mark.OpenParen = omega arith
-mark_some mark.CloseParen = omega arith
-mark_some mark.OpenBracket = omega arith
-mark_some mark.CloseBracket = omega arith
-mark_some mark.Comma = omega arith
-mark_some mark.Semicolon = omega arith
-mark_some mark.Assign = omega arith
-mark_some mark.AddAssign = omega arith
-mark_some mark.Plus = omega arith
-mark_some mark.Minus = omega arith
-mark_some mark.Star = omega arith
-mark_some mark.Slash = omega arith
-mark_some mark.Percent = omega arith
-mark_some mark.Bang = omega arith
-mark_some mark.Equal = omega arith
-mark_some mark.NotEqual = omega arith
-mark_some mark.Less = omega arith
-mark_some mark.LessEqual = omega arith
-mark_some mark.Greater = omega arith
-mark_some mark.GreaterEqual = omega arith
-mark_some mark.AndAnd = omega arith
-mark_some mark.OrOr = omega arith
+mark_size : (m : Mark) → (0 < length (spelled m)) × (length (spelled m) ≤ 2)
+mark_size mark.OpenBrace = omega arith
+mark_size mark.CloseBrace = omega arith
+mark_size mark.OpenParen = omega arith
+mark_size mark.CloseParen = omega arith
+mark_size mark.OpenBracket = omega arith
+mark_size mark.CloseBracket = omega arith
+mark_size mark.Comma = omega arith
+mark_size mark.Semicolon = omega arith
+mark_size mark.Assign = omega arith
+mark_size mark.AddAssign = omega arith
+mark_size mark.Plus = omega arith
+mark_size mark.Minus = omega arith
+mark_size mark.Star = omega arith
+mark_size mark.Slash = omega arith
+mark_size mark.Percent = omega arith
+mark_size mark.Bang = omega arith
+mark_size mark.Equal = omega arith
+mark_size mark.NotEqual = omega arith
+mark_size mark.Less = omega arith
+mark_size mark.LessEqual = omega arith
+mark_size mark.Greater = omega arith
+mark_size mark.GreaterEqual = omega arith
+mark_size mark.AndAnd = omega arith
+mark_size mark.OrOr = omega arith
 
 pub heads : (a b : ℕ) (xs ys : List ℕ) → a ∷ xs ≡ b ∷ ys → a ≡ b
 heads a b xs ys e = cc
@@ -199,7 +111,7 @@ item_some (block xs w) = omega arith
 item_some (run l w) = omega arith
 item_some (digits l w) = omega arith
 item_some (quoted xs w) = omega arith
-item_some (sign m) = mark_some m
+item_some (sign m) = (mark_size m).0
 
 pub run_longest : (b : ℕ) (bytes rest : List ℕ) → IsLetter b → AllByRecursion IsNameByte bytes → BeginsOutside class.InName rest → Longest (b ∷ bytes ++ rest) (b ∷ bytes) rest (Run (b ∷ bytes))
 run_longest b bytes rest letter all out = record {
@@ -216,7 +128,7 @@ run_longest b bytes rest letter all out = record {
     at_most _ _ (run {bytes = ys} l w) behind e = let tails : bytes ++ rest ≡ ys ++ behind = cc in let below : length ys ≤ length bytes = run_bound class.InName bytes rest ys behind w tails out in omega arith
     at_most _ _ (digits {b = y} l w) behind e = let same : b ≡ y = cc in absurd (omega (arith, letter_low b letter))
     at_most _ _ (quoted ys w) behind e = let same : b ≡ 34 = cc in absurd (omega (arith, letter_low b letter))
-    at_most _ _ (sign m) behind e = absurd (mark_no_letter m b (bytes ++ rest) behind e letter)
+    at_most _ _ (sign m) behind e = absurd ((mark_front m b (bytes ++ rest) behind e).3 letter)
 
 pub digits_longest : (b : ℕ) (bytes rest : List ℕ) → IsDigit b → AllByRecursion IsDigit bytes → BeginsOutside class.InNumber rest → Longest (b ∷ bytes ++ rest) (b ∷ bytes) rest (Digits (value_of (b ∷ bytes)))
 digits_longest b bytes rest digit all out = record {
@@ -293,7 +205,7 @@ line_longest body rest all out = record {
     at_most _ _ (run {b = y} l w) behind e = absurd (omega (arith, heads 47 y _ _ e, letter_low y l))
     at_most _ _ (digits {b = y} l w) behind e = absurd (omega (arith, heads 47 y _ _ e))
     at_most _ _ (quoted ys w) behind e = absurd (omega (arith, heads 47 34 _ _ e))
-    at_most _ _ (sign m) behind e = omega (arith, mark_short m)
+    at_most _ _ (sign m) behind e = omega (arith, (mark_size m).1)
 
 -- a block comment goes no further than the first `*/`
 close_bound : (body ys rest behind : List ℕ) → NeverCloses (ys ++ 42 ∷ []) → body ++ 42 ∷ 47 ∷ rest ≡ ys ++ 42 ∷ 47 ∷ behind → length ys ≤ length body
@@ -330,7 +242,7 @@ block_longest body rest never = record {
     at_most _ _ (run {b = y} l w) behind e = absurd (omega (arith, heads 47 y _ _ e, letter_low y l))
     at_most _ _ (digits {b = y} l w) behind e = absurd (omega (arith, heads 47 y _ _ e))
     at_most _ _ (quoted ys w) behind e = absurd (omega (arith, heads 47 34 _ _ e))
-    at_most _ _ (sign m) behind e = omega (arith, size, mark_short m)
+    at_most _ _ (sign m) behind e = omega (arith, size, (mark_size m).1)
 
 pub sign_longest : (bytes : List ℕ) (m : Mark) (n : ℕ) → LongestMark bytes m n → IsOther bytes → Longest bytes (spelled m) (drop n bytes) (Sign m)
 sign_longest bytes m n longest other = record {

@@ -1,5 +1,5 @@
 -- A text is read in one way: one token list, or one first fault.
-use Rattle.std.proofs.Common.{◌≡◌, ◌≤◌, ◌<◌, ◌+◌, ◌⊎◌, inl, inr, ℕ, Bool, true, false, cond, List, [], ◌∷◌, ◌++◌, Option, Some, None, Result, Err, length, refl, ap, sym, ◌∙◌, subst, arith, append_assoc, append-nil, nat_eq, find, ◌^◌}
+use Rattle.std.proofs.Common.{◌≡◌, ◌≤◌, ◌<◌, ◌+◌, ◌⊎◌, inl, inr, ℕ, Bool, true, false, cond, List, [], ◌∷◌, ◌++◌, Option, Some, Result, Err, length, refl, ap, sym, ◌∙◌, subst, arith, append_assoc, append-nil, nat_eq, find, ◌^◌, length-append}
 use Rattle.std.specs.List.{AllByRecursion}
 use Rattle.csl_tree.specs.declared.token.Token.{Token}
 use Rattle.csl_tree.specs.declared.token.TokenKind.{TokenKind}
@@ -11,7 +11,7 @@ use Rattle.csl_tree.specs.declared.token.Mark.TheVariants as mark
 use Rattle.csl_lexer.specs.declared.LexError.{LexError}
 use Rattle.csl_lexer.specs.Tokens.{IsInText, spelled, written, value_of, Item, Gap, Run, Digits, Quoted, Sign, IsItem, blank, line, block, run, digits, quoted, sign, OpensComment, OpensText, Longest, IsWord, keyword, name, IsToken, run_token, number_token, text_token, mark_token, IsFault, bad_byte, long_name, long_number, open_comment, open_text, Reads, at_end, gap, token, fault_here}
 use Rattle.csl_lexer.specs.Laws.{ReadsOneWay}
-use Rattle.csl_lexer.proofs.Items.{letter_low, blank_high, mark_no_letter, mark_front, heads}
+use Rattle.csl_lexer.proofs.Items.{letter_low, blank_high, mark_front, heads, item_some}
 
 -- whether two lists of bytes are equal
 abbrev same_bytes : List ℕ → List ℕ → Bool
@@ -144,7 +144,7 @@ one_item (run {b = b} {bytes = xs} l w) (block xs' w') e = absurd (omega (arith,
 one_item (run {b = b} {bytes = xs} l w) (run {b = b'} {bytes = xs'} l' w') e = ap (λ x. Run x) e
 one_item (run {b = b} {bytes = xs} l w) (digits {b = b'} {bytes = xs'} l' w') e = absurd (omega (arith, heads b b' _ _ e, letter_low b l, l'))
 one_item (run {b = b} {bytes = xs} l w) (quoted xs' w') e = absurd (omega (arith, heads b 34 _ _ e, letter_low b l))
-one_item (run {b = b} {bytes = xs} l w) (sign m') e = absurd (mark_no_letter m' b xs [] ((e) ∙ sym (append-nil (spelled m'))) l)
+one_item (run {b = b} {bytes = xs} l w) (sign m') e = absurd ((mark_front m' b xs [] (e ∙ sym (append-nil (spelled m')))).3 l)
 one_item (digits {b = b} {bytes = xs} l w) (blank {b = b'} w') e = absurd (omega (arith, heads b b' _ _ e, l, blank_high b' w'))
 one_item (digits {b = b} {bytes = xs} l w) (line {bytes = xs'} w') e = absurd (omega (arith, heads b 47 _ _ e, l))
 one_item (digits {b = b} {bytes = xs} l w) (block xs' w') e = absurd (omega (arith, heads b 47 _ _ e, l))
@@ -162,7 +162,7 @@ one_item (quoted xs w) (sign m') e = absurd ((mark_front m' 34 _ [] ((e) ∙ sym
 one_item (sign m) (blank {b = b'} w') e = absurd (omega (arith, (mark_front m b' [] [] ((sym e) ∙ sym (append-nil (spelled m)))).0, blank_high b' w'))
 one_item (sign m) (line {bytes = xs'} w') e = absurd (comment_no_mark m _ _ (sym (sym e)))
 one_item (sign m) (block xs' w') e = absurd (comment_no_mark m _ _ (sym (sym e)))
-one_item (sign m) (run {b = b'} {bytes = xs'} l' w') e = absurd (mark_no_letter m b' xs' [] ((sym e) ∙ sym (append-nil (spelled m))) l')
+one_item (sign m) (run {b = b'} {bytes = xs'} l' w') e = absurd ((mark_front m b' xs' [] (sym e ∙ sym (append-nil (spelled m)))).3 l')
 one_item (sign m) (digits {b = b'} {bytes = xs'} l' w') e = absurd ((mark_front m b' xs' [] ((sym e) ∙ sym (append-nil (spelled m)))).2 l')
 one_item (sign m) (quoted xs' w') e = absurd ((mark_front m 34 _ [] ((sym e) ∙ sym (append-nil (spelled m)))).1 refl)
 one_item (sign m) (sign m') e = ap (λ x. Sign x) (spelled_same m m' e)
@@ -184,21 +184,8 @@ one_longest bytes p r p' r' i i' l l' =
     let both : (p ≡ p') × (r ≡ r') = prefix_same p r p' r' (sym l.split ∙ l'.split) sizes in
     (both.0, both.1, one_item l.is_item l'.is_item both.0)
 
-item_some : {p : List ℕ} {i : Item} → IsItem p i → p ≡ [] → ⊥
-item_some (blank w) e = cc
-item_some (line w) e = cc
-item_some (block xs w) e = cc
-item_some (run l w) e = cc
-item_some (digits l w) e = cc
-item_some (quoted xs w) e = cc
-item_some (sign m) e = let t : 47 ∷ (spelled m ++ []) ≡ 47 ∷ [] = ap (λ x. 47 ∷ x) (append-nil (spelled m) ∙ e) in no_empty_mark m e
-  where
-    no_empty_mark : (m : Mark) → spelled m ≡ [] → ⊥
-    no_empty_mark m e = let both : Some m ≡ None = sym (mark_of-spelled m) ∙ ap mark_of e in cc
-
 none_empty : {p r : List ℕ} {i : Item} → Longest [] p r i → ⊥
-none_empty {p = []} l = item_some l.is_item refl
-none_empty {p = x ∷ xs} l = let e : [] ≡ x ∷ xs ++ _ = l.split in cc
+none_empty {p = p} {r = r} l = omega (arith, item_some l.is_item, ap (λ (x : List ℕ). length x) l.split, length-append p r)
 
 word_same : {at : ℕ} {bytes bytes' : List ℕ} {k k' : TokenKind} → IsWord at bytes k → IsWord at bytes' k' → bytes ≡ bytes' → k ≡ k'
 word_same (keyword {w = w}) (keyword {w = w'}) e = ap (λ x. kind.Word x) (written_same w w' e)
@@ -272,10 +259,6 @@ fault_clash p r i (long_name {piece = q} {rest = s} l' h) l = subst Clash (sym (
 fault_clash p r i (long_number {n = n} {piece = q} {rest = s} l' h) l = subst Clash (sym (one_longest _ p r q s i (Digits n) l l').2) (too_large h)
 fault_clash p r i (open_comment o) l = absurd (l.closed o)
 fault_clash p r i (open_text t) l = absurd (at_text _ t l.split l.is_item)
-
--- the byte before an open comment is an item by itself
-slash_item : {bytes : List ℕ} (o : OpensComment bytes) → bytes ≡ (47 ∷ []) ++ (42 ∷ o.body)
-slash_item o = o.split
 
 run_not_digits : {p q r s bytes : List ℕ} {n : ℕ} → Longest bytes p r (Run p) → Longest bytes q s (Digits n) → ⊥
 run_not_digits {p = p} {q = q} {r = r} {s = s} {bytes = bytes} {n = n} l l' = let same : Run p ≡ Digits n = (one_longest bytes p r q s (Run p) (Digits n) l l').2 in cc

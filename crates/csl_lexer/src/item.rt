@@ -12,8 +12,11 @@ use csl_tree::name::{Name, Text};
 use csl_tree::token::TokenKind;
 use std::alloc::Global;
 
+/// A token, or none for a blank or a comment, and how many bytes it takes.
+type Piece = (Option<TokenKind>, usize);
+
 /// What stands at the front of bytes that begin at a place of the text.
-pub fn item(alloc: Global, at: u32, bytes: &[u8]) -> Result<(Option<TokenKind>, usize), LexError>
+pub fn item(alloc: Global, at: u32, bytes: &[u8]) -> Result<Piece, LexError>
     requires { 0 < length bytes.now }
     ensures { Steps at bytes.now result }
 {
@@ -36,7 +39,7 @@ pub fn item(alloc: Global, at: u32, bytes: &[u8]) -> Result<(Option<TokenKind>, 
 }
 
 /// A block comment, from behind its `/*` on.
-fn block_comment(at: u32, body: &[u8]) -> Result<(Option<TokenKind>, usize), LexError>
+fn block_comment(at: u32, body: &[u8]) -> Result<Piece, LexError>
     ensures { Steps at (47 ∷ 42 ∷ body.now) result }
 {
     match closing(body) {
@@ -46,7 +49,7 @@ fn block_comment(at: u32, body: &[u8]) -> Result<(Option<TokenKind>, usize), Lex
 }
 
 /// A text, from behind its first quote on.
-fn text(alloc: Global, at: u32, inner: &[u8]) -> Result<(Option<TokenKind>, usize), LexError>
+fn text(alloc: Global, at: u32, inner: &[u8]) -> Result<Piece, LexError>
     ensures { Steps at (34 ∷ inner.now) result }
 {
     let length = run_length(ByteClass::InText, inner);
@@ -58,8 +61,8 @@ fn text(alloc: Global, at: u32, inner: &[u8]) -> Result<(Option<TokenKind>, usiz
     }
 }
 
-/// A name or a keyword.
-fn word(alloc: Global, at: u32, bytes: &[u8]) -> Result<(Option<TokenKind>, usize), LexError>
+/// A name or a keyword, from its first letter on.
+fn word(alloc: Global, at: u32, bytes: &[u8]) -> Result<Piece, LexError>
     requires some { 0 < length bytes.now }
     requires letter { IsLetter (slice_index bytes.now 0) }
     ensures { Steps at bytes.now result }
@@ -83,8 +86,8 @@ fn word_kind(alloc: Global, at: u32, bytes: &[u8]) -> Result<TokenKind, NoMemory
     Ok(TokenKind::Named(Name { text, at }))
 }
 
-/// A number.
-fn number(at: u32, bytes: &[u8]) -> Result<(Option<TokenKind>, usize), LexError>
+/// A number, from its first digit on.
+fn number(at: u32, bytes: &[u8]) -> Result<Piece, LexError>
     requires some { 0 < length bytes.now }
     requires digit { IsDigit (slice_index bytes.now 0) }
     ensures { Steps at bytes.now result }
@@ -97,7 +100,7 @@ fn number(at: u32, bytes: &[u8]) -> Result<(Option<TokenKind>, usize), LexError>
 }
 
 /// A mark, or else a byte that begins nothing.
-fn sign(at: u32, bytes: &[u8]) -> Result<(Option<TokenKind>, usize), LexError>
+fn sign(at: u32, bytes: &[u8]) -> Result<Piece, LexError>
     requires some { 0 < length bytes.now }
     requires other { IsOther bytes.now }
     ensures { Steps at bytes.now result }

@@ -1,7 +1,9 @@
 -- Fuel and steps along a run.
-use Rattle.std.proofs.Common.{◌≡◌, ℕ, zero, suc, ◌+◌, ◌-◌, ◌≤◌, List, [], ◌∷◌, Result, Ok, Err, refl, ap, ◌∙◌, subst, arith, length, map, sum}
-use Rattle.std.proofs.lemmas.List.{length-append, length-map}
+use Rattle.std.proofs.Common.{◌≡◌, ℕ, zero, suc, ◌+◌, ◌-◌, ◌≤◌, List, [], ◌∷◌, Result, Ok, Err, refl, subst, arith, length, map, sum}
+use Rattle.std.proofs.lemmas.List.{length-append}
 use Rattle.std.proofs.lemmas.List.Sums.{sum_by-cons}
+use Rattle.std.proofs.lemmas.List.FromFn.{length-map-range_with_len}
+use Rattle.std.specs.List.{range_with_len}
 use Rattle.cal_base.specs.declared.ends.Cause.{Cause}
 use Rattle.cal_base.specs.declared.ends.StepFault.{StepFault}
 use Rattle.cal_base.specs.declared.value.Store.{Store}
@@ -15,8 +17,9 @@ use Rattle.csl_meaning.specs.declared.state.World.{World}
 use Rattle.csl_meaning.specs.Locals.{Locals}
 use Rattle.csl_meaning.specs.Runs.{Outcome, Gives, Stops, ShowsLine, OpensStep, Run, and_then, ◌>>◌, spend, with_store}
 use Rattle.csl_meaning.specs.Effect.{calls_to, most_levels}
-use Rattle.csl_meaning.specs.Routines.{answer, answers, counted}
-use Rattle.csl_meaning.specs.Meaning.{most_routines, open_step, in_main, first_world, run_of, main_of}
+use Rattle.csl_meaning.specs.Routines.{answer, answers}
+use Rattle.csl_meaning.specs.Meaning.{open_step, in_main, first_world, run_of, main_of}
+use Rattle.cal_base.specs.Widths.{most_routines}
 use Rattle.csl_meaning.specs.Laws.{StepsAreNumbered, StepsAreBounded}
 use Rattle.csl_meaning.proofs.Parts.{Always, OfParts, OfMainParts, ended, of_calls_to, of_statements, of_in_main}
 
@@ -67,18 +70,14 @@ counts = record {
 
 -- ---- main's own statements
 
-length_counted : (from n : ℕ) → length (counted from n) ≡ n
-length_counted from zero = refl
-length_counted from (suc n) = ap suc (length_counted (from + 1) n)
-
 -- a step has as many routines as its widths say, or fewer where a block has no width
 length_answers : (p : Program) (memory : Memory) (fuel : ℕ) (blocks : List RoutineBlock) (widths : List ℕ) → length (answers p memory fuel blocks widths) ≤ sum widths
 length_answers p memory fuel [] [] = omega arith
 length_answers p memory fuel [] (w ∷ widths) = omega arith
 length_answers p memory fuel (block ∷ blocks) [] = omega arith
 length_answers p memory fuel (block ∷ blocks) (w ∷ widths) =
-    let own : length (map (λ id. answer p memory fuel block w id) (counted 0 w)) ≡ w = length-map (counted 0 w) (λ id. answer p memory fuel block w id) ∙ length_counted 0 w in
-    let both : length (answers p memory fuel (block ∷ blocks) (w ∷ widths)) ≡ length (map (λ id. answer p memory fuel block w id) (counted 0 w)) + length (answers p memory fuel blocks widths) = length-append (map (λ id. answer p memory fuel block w id) (counted 0 w)) (answers p memory fuel blocks widths) in
+    let own : length (map (λ id. answer p memory fuel block w id) (range_with_len 0 w)) ≡ w = length-map-range_with_len (λ id. answer p memory fuel block w id) 0 w in
+    let both : length (answers p memory fuel (block ∷ blocks) (w ∷ widths)) ≡ length (map (λ id. answer p memory fuel block w id) (range_with_len 0 w)) + length (answers p memory fuel blocks widths) = length-append (map (λ id. answer p memory fuel block w id) (range_with_len 0 w)) (answers p memory fuel blocks widths) in
     let together : sum (w ∷ widths) ≡ w + sum widths = sum_by-cons (λ x. x) w widths in
     let others : length (answers p memory fuel blocks widths) ≤ sum widths = length_answers p memory fuel blocks widths in
     omega arith

@@ -28,7 +28,9 @@ use Rattle.csl_meaning.specs.Operators.{number_in, truth_in, unary, binary, deci
 use Rattle.csl_meaning.specs.Runs.{Outcome, Run, ◌>>=◌, ◌>>◌, pure, stop, try, take_unit, word_at, put_word, raise_word}
 use Rattle.csl_meaning.specs.Value.{Calls, value, read, result, boxed, values, value_of, item_at, in_range, declared, read_as_int, read_name, unless}
 use Rattle.csl_meaning.specs.Effect.{Went, MainOnly, Printing, Stepping, go_on, after_body, scoped, locals_after, turn, turns, loop, assert, set_name, add_to_name, set, add_to, returned, blocks_in, effect, in_order, choose, otherwise, statements, step_of, nowhere, function_named, run_function, calls_to, most_levels}
-use Rattle.csl_meaning.specs.Meaning.{show, line_of, pieces, widths_of, naturals, good_widths, most_routines, open_step, in_main}
+use Rattle.csl_meaning.specs.Meaning.{show, pieces, widths_of, good_widths, open_step, in_main}
+use Rattle.cal_base.specs.Printing.{line_of}
+use Rattle.cal_base.specs.Widths.{most_routines, naturals, unless_too_many}
 
 -- what is to hold of each run, from every world
 abbrev pub Always : ((A : Type 0) → World → Outcome A → Type 0) → {A : Type 0} → Run A → Type 0
@@ -254,11 +256,11 @@ module _ (Holds : (A : Type 0) → World → Outcome A → Type 0) (parts : OfPa
         chain Holds parts (of_width width) (λ v. chain Holds parts (of_widths rest) (λ widths. gives Holds parts _))
 
     of_test : (b : Bool) (blocks : List RoutineBlock) (widths : List ℕ) → nat_le (sum widths) most_routines ≡ b
-        → Always Holds ((if b then pure widths else stop BadWidth) >>= (λ ns. take_unit >> (open_step p fuel blocks ns >> ended locals)))
+        → Always Holds (good_widths (if b then Some widths else None) >>= (λ ns. take_unit >> (open_step p fuel blocks ns >> ended locals)))
     of_test true blocks widths e = main_parts.of_opening blocks widths locals (leb-true (sum widths) most_routines e)
     of_test false blocks widths e = parts.of_stop _ BadWidth
 
-    of_good : (widths : Option (List ℕ)) (blocks : List RoutineBlock) → Always Holds (good_widths widths >>= (λ ns. take_unit >> (open_step p fuel blocks ns >> ended locals)))
+    of_good : (widths : Option (List ℕ)) (blocks : List RoutineBlock) → Always Holds (good_widths (unless_too_many widths) >>= (λ ns. take_unit >> (open_step p fuel blocks ns >> ended locals)))
     of_good None blocks = parts.of_stop _ BadWidth
     of_good (Some widths) blocks = of_test (nat_le (sum widths) most_routines) blocks widths refl
 

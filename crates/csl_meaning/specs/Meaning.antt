@@ -1,12 +1,11 @@
 -- What a program means: what main shows, which steps it opens, and how it ends.
-use Rattle.std.specs.Prelude.{ℕ, ℤ, pos, negsuc, suc, nat_le, true, false, if◌then◌else◌, List, [], ◌∷◌, ◌++◌, sum, Option, Some, None, codes}
-use Rattle.std.specs.Fmt.{signed_decimal}
+use Rattle.std.specs.Prelude.{ℕ, ℤ, suc, List, [], ◌∷◌, Option, Some, None}
 use Rattle.cal_base.specs.declared.ends.Cause.TheVariants.{BadWidth}
 use Rattle.cal_base.specs.declared.ends.RunEnd.TheVariants.{Done, MainFault}
 use Rattle.cal_base.specs.declared.value.Store.TheVariants as store
-use Rattle.cal_base.specs.declared.value.Val.{Val}
-use Rattle.cal_base.specs.declared.value.Val.TheVariants as val
 use Rattle.cal_base.specs.Stores.{memory_in}
+use Rattle.cal_base.specs.Printing.{shown, line_of}
+use Rattle.cal_base.specs.Widths.{step_widths}
 use Rattle.cal_base.specs.Main.{Main, Ends, Shows, Opens, Meaning, meaning_of}
 use Rattle.csl_tree.specs.declared.program.Program.{Program}
 use Rattle.csl_tree.specs.declared.program.Item.{Item}
@@ -21,18 +20,6 @@ use Rattle.csl_meaning.specs.Runs.{Outcome, Gives, Stops, ShowsLine, OpensStep, 
 use Rattle.csl_meaning.specs.Value.{Calls, value_of}
 use Rattle.csl_meaning.specs.Effect.{Went, MainOnly, Printing, Stepping, statements, calls_to, most_levels}
 use Rattle.csl_meaning.specs.Routines.{answers}
-
--- a value as it is printed: a number in decimal, or `true` or `false`
-abbrev pub shown : Val → List ℕ
-shown (val.Int z) = signed_decimal z
-shown (val.Truth true) = codes "true"
-shown (val.Truth false) = codes "false"
-
--- the pieces of a line with one blank between, and a line feed at the end
-abbrev pub line_of : List (List ℕ) → List ℕ
-line_of [] = 10 ∷ []
-line_of (piece ∷ []) = piece ++ 10 ∷ []
-line_of (piece ∷ next ∷ rest) = piece ++ 32 ∷ line_of (next ∷ rest)
 
 -- shows a line
 abbrev pub show : List ℕ → Run (Unit {0})
@@ -58,25 +45,10 @@ module _ (p : Program) (calls : Calls) (locals : Locals) where
     more ← widths_of rest
     pure (number_in v ∷ more)
 
--- how many routines a step has at most
-abbrev pub most_routines : ℕ
-most_routines = 65536
-
--- one more width in front, unless it or another one is negative
-abbrev pub and_natural : ℤ → Option (List ℕ) → Option (List ℕ)
-and_natural (pos n) (Some ns) = Some (n ∷ ns)
-and_natural (pos n) None = None
-and_natural (negsuc n) ns = None
-
--- the widths, unless one is negative
-abbrev pub naturals : List ℤ → Option (List ℕ)
-naturals [] = Some []
-naturals (z ∷ zs) = and_natural z (naturals zs)
-
--- the widths, unless one is negative or there are too many routines
+-- goes on with the widths, unless they are no step's
 abbrev pub good_widths : Option (List ℕ) → Run (List ℕ)
 good_widths None = stop BadWidth
-good_widths (Some ns) = if nat_le (sum ns) most_routines then pure ns else stop BadWidth
+good_widths (Some widths) = pure widths
 
 -- opens the next step on the memory as it is, where each routine has the whole fuel, and goes on with the memory that the step leaves
 abbrev pub open_step : Program → ℕ → List RoutineBlock → List ℕ → Run (Unit {0})
@@ -92,7 +64,7 @@ in_main p fuel (Printing items) locals = do
   pure (ending.Normal, locals)
 in_main p fuel (Stepping blocks) locals = do
   numbers ← widths_of p (calls_to p most_levels) locals blocks
-  widths ← good_widths (naturals numbers)
+  widths ← good_widths (step_widths numbers)
   take_unit
   open_step p fuel blocks widths
   pure (ending.Normal, locals)

@@ -1,10 +1,13 @@
 -- What the routines of a step answer.
-use Rattle.std.specs.Prelude.{ℕ, pos, ◌+◌, zero, suc, List, [], ◌∷◌, ◌++◌, map}
+use Rattle.std.specs.Prelude.{ℕ, pos, List, [], ◌∷◌, ◌++◌, map}
 use Rattle.std.specs.FinMap.{empty}
+use Rattle.std.specs.List.{range_with_len}
 use Rattle.cal_base.specs.declared.answer.Answer.{Answer}
-use Rattle.cal_base.specs.declared.answer.Answer.TheVariants.{Update, Fault}
+use Rattle.cal_base.specs.declared.ends.RoutineEnd.{RoutineEnd}
+use Rattle.cal_base.specs.declared.ends.RoutineEnd.TheVariants.{Ended, Fault}
 use Rattle.cal_base.specs.declared.value.Store.TheVariants.{Routine}
 use Rattle.cal_base.specs.declared.value.Val.TheVariants.{Int}
+use Rattle.cal_base.specs.Answers.{answer_by}
 use Rattle.cal_base.specs.Memory.{Memory}
 use Rattle.cal_base.specs.Stores.{written_in}
 use Rattle.csl_tree.specs.declared.program.Program.{Program}
@@ -23,32 +26,31 @@ abbrev pub routine_run : Program → Memory → ℕ → RoutineBlock → ℕ →
 routine_run p memory fuel (RoutineBlock' at width width_name id_name shape body) w id =
     in_order p (calls_to p most_levels) nowhere body (bound (width_name.text ∷ id_name.text ∷ []) (Int (pos w) ∷ Int (pos id) ∷ [])) (opening_world memory fuel)
 
--- what a routine answers: its writes and sums, or why it stopped; it shows no line and opens no step
-abbrev pub answer_by : Outcome Went → Answer
-answer_by (Gives went w) = Update (written_in w.store)
-answer_by (Stops cause w) = Fault cause
-answer_by (ShowsLine line rest) = answer_by rest
-answer_by (OpensStep job rest) = answer_by (rest job.opening)
+-- how a routine ended; it shows no line and opens no step
+abbrev pub end_of : Outcome Went → RoutineEnd
+end_of (Gives went w) = Ended
+end_of (Stops cause w) = Fault cause
+end_of (ShowsLine line rest) = end_of rest
+end_of (OpensStep job rest) = end_of (rest job.opening)
 
--- the fuel that a routine leaves
-abbrev pub fuel_left : Outcome Went → ℕ
-fuel_left (Gives went w) = w.fuel
-fuel_left (Stops cause w) = w.fuel
-fuel_left (ShowsLine line rest) = fuel_left rest
-fuel_left (OpensStep job rest) = fuel_left (rest job.opening)
+-- the world after a routine: what it wrote, and the fuel that it leaves
+abbrev pub world_after : Outcome Went → World
+world_after (Gives went w) = w
+world_after (Stops cause w) = w
+world_after (ShowsLine line rest) = world_after rest
+world_after (OpensStep job rest) = world_after (rest job.opening)
+
+-- the answer of a routine whose run goes so
+abbrev pub answered : Outcome Went → Answer
+answered run = answer_by (end_of run) (written_in (world_after run).store)
 
 -- one routine's answer
 abbrev pub answer : Program → Memory → ℕ → RoutineBlock → ℕ → ℕ → Answer
-answer p memory fuel block w id = answer_by (routine_run p memory fuel block w id)
-
--- the numbers from `from` on, this many
-abbrev pub counted : ℕ → ℕ → List ℕ
-counted from zero = []
-counted from (suc n) = from ∷ counted (from + 1) n
+answer p memory fuel block w id = answered (routine_run p memory fuel block w id)
 
 -- the answers of all routines of a step: the numbers run through the blocks in order
 abbrev pub answers : Program → Memory → ℕ → List RoutineBlock → List ℕ → List Answer
 answers p memory fuel [] widths = []
 answers p memory fuel (block ∷ blocks) [] = []
 answers p memory fuel (block ∷ blocks) (w ∷ widths) =
-    map (λ id. answer p memory fuel block w id) (counted 0 w) ++ answers p memory fuel blocks widths
+    map (λ id. answer p memory fuel block w id) (range_with_len 0 w) ++ answers p memory fuel blocks widths

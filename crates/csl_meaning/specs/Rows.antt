@@ -6,6 +6,7 @@ use Rattle.cal_base.specs.Main.{Meaning}
 use Rattle.cal_base.specs.Text.{text_of, fault_line, line}
 use Rattle.csl_tree.specs.declared.name.Name.{Name}
 use Rattle.csl_tree.specs.declared.program.Program.{Program}
+use Rattle.csl_tree.specs.declared.program.Function.{Function}
 use Rattle.csl_tree.specs.declared.program.Gives.TheVariants as gives
 use Rattle.csl_tree.specs.declared.program.Ty.TheVariants as ty
 use Rattle.csl_tree.specs.declared.program.Expr.{Expr}
@@ -28,63 +29,79 @@ use Rattle.csl_meaning.specs.Meaning.{meaning}
 
 -- ---- parts of trees; their positions don't matter
 
+-- a name
 abbrev named : List ℕ → Name
 named text = record { text = text; at = 0 }
 
+-- int x;
 abbrev scalar : List ℕ → Shared
 scalar x = record { name = named x; kind = Ordinary; size = None; values = []; listed = false }
 
+-- tally int x;
 abbrev tally : List ℕ → Shared
 tally x = record { name = named x; kind = Tally; size = None; values = []; listed = false }
 
-abbrev array : List ℕ → ℕ → List ℤ → Shared
-array x n values = record {
-  name = named x;
-  kind = Ordinary;
-  size = Some (record { at = 0; number = pos n });
-  values = map (λ z. record { at = 0; number = z }) values;
-  listed = true;
-}
+-- int x[n];
+abbrev array : List ℕ → ℕ → Shared
+array x n = record { name = named x; kind = Ordinary; size = Some (record { at = 0; number = pos n }); values = []; listed = false }
 
+-- int x[n] = {values};
+abbrev array_of : List ℕ → ℕ → List ℤ → Shared
+array_of x n values = record (array x n) { values = map (λ z. record { at = 0; number = z }) values; listed = true }
+
+-- an expression
 abbrev e : Node → Expr
 e n = record { at = 0; node = n }
 
+-- n
 abbrev pub number : ℕ → Expr
 number n = e (node.Number (pos n))
 
+-- -x
 abbrev pub minus : Expr → Expr
 minus x = e (node.Unary Neg x)
 
+-- x OP y
 abbrev two : Expr → BinaryOp → Expr → Expr
 two x op y = e (node.Binary op x y)
 
+-- the place x
 abbrev at_name : List ℕ → Place
 at_name x = roll-Place (record { name = named x; index = None })
 
+-- the place a[i]
 abbrev at_item : List ℕ → Expr → Place
 at_item a i = roll-Place (record { name = named a; index = Some i })
 
+-- what a place reads as
 abbrev read : Place → Expr
 read place = e (node.Read place)
 
+-- x
 abbrev var : List ℕ → Expr
 var x = read (at_name x)
 
+-- f(arguments)
 abbrev call : List ℕ → List Expr → Expr
 call f arguments = e (node.CallOf (roll-Call (record { name = named f; args = arguments })))
 
+-- a statement
 abbrev s : Form → Stmt
 s f = record { at = 0; form = f }
 
+-- int x = value;
 abbrev declare : List ℕ → Expr → Stmt
 declare x value = s (form.Declare ty.Int (named x) value)
 
+-- place = value;
 abbrev set : Place → Expr → Stmt
 set place value = s (form.Set place value)
 
+-- place += value;
 abbrev add_to : Place → Expr → Stmt
 add_to place value = s (form.AddTo place value)
 
+-- if (test) { body }, and else the last block, if there is one
 abbrev when : Expr → List Stmt → Option (List Stmt) → Stmt
 when test body last = s (form.If (roll-Arm (record { test = test; body = body }) ∷ []) last)
 
@@ -92,6 +109,7 @@ when test body last = s (form.If (roll-Arm (record { test = test; body = body })
 abbrev count_to : List ℕ → ℕ → List Stmt → Stmt
 count_to x n body = s (form.For (declare x (number 0)) (two (var x) Lt (number n)) (add_to (at_name x) (number 1)) body)
 
+-- print(items);
 abbrev print : List Item → Stmt
 print items = s (form.Print items)
 
@@ -99,9 +117,11 @@ print items = s (form.Print items)
 abbrev pub routine : Expr → List Stmt → RoutineBlock
 routine width body = roll-RoutineBlock (record { at = 0; width = width; width_name = named (codes "w"); id_name = named (codes "id"); body = body })
 
+-- parbegin blocks parend;
 abbrev parallel : List RoutineBlock → Stmt
 parallel blocks = s (form.Par blocks)
 
+-- id
 abbrev pub id : Expr
 id = var (codes "id")
 
@@ -109,14 +129,7 @@ id = var (codes "id")
 abbrev print_pair : Stmt
 print_pair = print (item.Value (read (at_item (codes "a") (number 0))) ∷ item.Value (read (at_item (codes "a") (number 1))) ∷ [])
 
--- id / 8
-abbrev row : Expr
-row = two id Div (number 8)
-
--- id % 8
-abbrev column : Expr
-column = two id Rem (number 8)
-
+-- a program without functions
 abbrev main_alone : List Shared → List Stmt → Program
 main_alone shared main = record { shared = shared; functions = []; main = main }
 
@@ -134,6 +147,7 @@ Writes p fuel out fault = written false (meaning p fuel) ≡ (out, fault)
 abbrev pub nothing : Program
 nothing = main_alone [] []
 
+-- nothing is printed, and the run is done after no step
 abbrev pub NothingIsDone : Type 0
 NothingIsDone = meaning nothing 1000000 ≡ record { events = []; ending = Done 0 }
 
@@ -144,21 +158,24 @@ lines = main_alone []
     ∷ print (item.Text (named (codes "a")) ∷ item.Value (minus (number 5)) ∷ item.Value (e (node.Truth true)) ∷ [])
     ∷ [])
 
+-- one blank stands between two items, and no items give an empty line
 abbrev pub LinesOfItems : Type 0
 LinesOfItems = Writes lines 1000000 (line [] ++ line (codes "a -5 true")) []
 
 -- shared { int a[4]; int s; } main { parbegin routine[4](int w, int id) { a[id] = id * id; } parend; for (int i = 0; i < 4; i += 1) { s += a[i]; } print("sum", s); }
 abbrev pub squares : Program
-squares = main_alone (array (codes "a") 4 [] ∷ scalar (codes "s") ∷ [])
+squares = main_alone (array (codes "a") 4 ∷ scalar (codes "s") ∷ [])
     (parallel (routine (number 4) (set (at_item (codes "a") id) (two id Mul id) ∷ []) ∷ [])
     ∷ count_to (codes "i") 4 (add_to (at_name (codes "s")) (read (at_item (codes "a") (var (codes "i")))) ∷ [])
     ∷ print (item.Text (named (codes "sum")) ∷ item.Value (var (codes "s")) ∷ [])
     ∷ [])
 
+-- a step's lines show each word that changed
 abbrev pub SumOfSquares : Type 0
 SumOfSquares = written true (meaning squares 1000000) ≡
     (line (codes "step 1") ++ line (codes "word 1 = 1") ++ line (codes "word 2 = 4") ++ line (codes "word 3 = 9") ++ line (codes "sum 14"), [])
 
+-- the run is done after one step
 abbrev pub OneStepIsDone : Type 0
 OneStepIsDone = (meaning squares 1000000).ending ≡ Done 1
 
@@ -166,16 +183,18 @@ OneStepIsDone = (meaning squares 1000000).ending ≡ Done 1
 abbrev pub FuelForSquares : Type 0
 FuelForSquares = Writes squares 5 (line (codes "sum 14")) []
 
+-- one unit fewer is spent at the last turn
 abbrev pub NoFuelForSquares : Type 0
 NoFuelForSquares = Writes squares 4 [] (line (codes "fault: after step 1: fuel spent"))
 
 -- shared { int a[2] = {1, 2}; } main { parbegin routine[2](int w, int id) { a[id] = a[1 - id]; } parend; print(a[0], a[1]); }
 abbrev pub swapped : Program
-swapped = main_alone (array (codes "a") 2 (pos 1 ∷ pos 2 ∷ []) ∷ [])
+swapped = main_alone (array_of (codes "a") 2 (pos 1 ∷ pos 2 ∷ []) ∷ [])
     (parallel (routine (number 2) (set (at_item (codes "a") id) (read (at_item (codes "a") (two (number 1) Sub id))) ∷ []) ∷ [])
     ∷ print_pair
     ∷ [])
 
+-- each routine reads the memory on which the step opened
 abbrev pub SwappedPair : Type 0
 SwappedPair = Writes swapped 1000000 (line (codes "2 1")) []
 
@@ -186,12 +205,13 @@ raised_twice = main_alone (scalar (codes "x") ∷ [])
     ∷ print (item.Value (var (codes "x")) ∷ [])
     ∷ [])
 
+-- the second step opens on what the first one leaves
 abbrev pub RaisedTwice : Type 0
 RaisedTwice = Writes raised_twice 1000000 (line (codes "2")) []
 
 -- shared { int a[2]; } main { parbegin routine[WIDTH](int w, int id) { FIRST } routine[2](int w, int id) { SECOND } parend; print(a[0], a[1]); }
 abbrev two_blocks : ℕ → Stmt → Stmt → Program
-two_blocks width first second = main_alone (array (codes "a") 2 [] ∷ [])
+two_blocks width first second = main_alone (array (codes "a") 2 ∷ [])
     (parallel (routine (number width) (first ∷ []) ∷ routine (number 2) (second ∷ []) ∷ [])
     ∷ print_pair
     ∷ [])
@@ -204,21 +224,27 @@ fail = s (form.Assert (e (node.Truth false)))
 abbrev set_sum : Stmt
 set_sum = set (at_item (codes "a") id) (two (var (codes "w")) Add id)
 
+-- the first block has no routine
 abbrev pub empty_block : Program
 empty_block = two_blocks 0 fail set_sum
 
+-- both blocks have two, and those of the first fail
 abbrev pub first_fails : Program
 first_fails = two_blocks 2 fail set_sum
 
+-- both blocks have two, and those of the second fail
 abbrev pub second_fails : Program
 second_fails = two_blocks 2 set_sum fail
 
+-- numbers and widths are those of the block
 abbrev pub BlockOfWidthZero : Type 0
 BlockOfWidthZero = Writes empty_block 1000000 (line (codes "2 3")) []
 
+-- the least number that failed is named
 abbrev pub FirstBlockFails : Type 0
 FirstBlockFails = Writes first_fails 1000000 [] (line (codes "fault: step 1, routine 0: assertion failed"))
 
+-- numbers go on from one block to the next
 abbrev pub SecondBlockFails : Type 0
 SecondBlockFails = Writes second_fails 1000000 [] (line (codes "fault: step 1, routine 2: assertion failed"))
 
@@ -226,6 +252,7 @@ SecondBlockFails = Writes second_fails 1000000 [] (line (codes "fault: step 1, r
 abbrev pub both_write : Expr → Program
 both_write value = main_alone (scalar (codes "s") ∷ []) (parallel (routine (number 2) (set (at_name (codes "s")) value ∷ []) ∷ []) ∷ [])
 
+-- the second writer of a word is in conflict with the first, also where the value is the word's own
 abbrev pub WritersInConflict : Expr → Type 0
 WritersInConflict value = Writes (both_write value) 1000000 [] (line (codes "fault: step 1, routine 1: word 0 also written by routine 0"))
 
@@ -234,20 +261,22 @@ abbrev pub three_write : Program
 three_write = main_alone (scalar (codes "s") ∷ [])
     (parallel (routine (number 4) (when (two id Gt (number 0)) (set (at_name (codes "s")) id ∷ []) None ∷ []) ∷ []) ∷ [])
 
+-- the least number in conflict is named, and the writer below it
 abbrev pub LeastPairInConflict : Type 0
 LeastPairInConflict = Writes three_write 1000000 [] (line (codes "fault: step 1, routine 2: word 0 also written by routine 1"))
 
 -- shared { int a[6]; } main { parbegin routine[2](int w, int id) { a[5] = 1; assert(id == 1); } parend; }
 abbrev pub fails_after_write : Program
-fails_after_write = main_alone (array (codes "a") 6 [] ∷ [])
+fails_after_write = main_alone (array (codes "a") 6 ∷ [])
     (parallel (routine (number 2) (set (at_item (codes "a") (number 5)) (number 1) ∷ s (form.Assert (two id Eq (number 1))) ∷ []) ∷ []) ∷ [])
 
+-- a routine that fails has written nothing, so that the other has no conflict
 abbrev pub TrappedWritesNothing : Type 0
 TrappedWritesNothing = Writes fails_after_write 1000000 [] (line (codes "fault: step 1, routine 0: assertion failed"))
 
 -- shared { int a[4]; int z; } main { parbegin routine[4](int w, int id) { if (id == 3) { a[0] = 1 / z; } if (id == 1) { a[4 + id] = 1; } a[id] = id; } parend; }
 abbrev pub two_trap : Program
-two_trap = main_alone (array (codes "a") 4 [] ∷ scalar (codes "z") ∷ [])
+two_trap = main_alone (array (codes "a") 4 ∷ scalar (codes "z") ∷ [])
     (parallel (routine (number 4)
     (when (two id Eq (number 3)) (set (at_item (codes "a") (number 0)) (two (number 1) Div (var (codes "z"))) ∷ []) None
     ∷ when (two id Eq (number 1)) (set (at_item (codes "a") (two (number 4) Add id)) (number 1) ∷ []) None
@@ -255,6 +284,7 @@ two_trap = main_alone (array (codes "a") 4 [] ∷ scalar (codes "z") ∷ [])
     ∷ []) ∷ [])
     ∷ [])
 
+-- of two that fail, the least number is named
 abbrev pub LeastFaultyIsNamed : Type 0
 LeastFaultyIsNamed = Writes two_trap 1000000 [] (line (codes "fault: step 1, routine 1: index out of range"))
 
@@ -265,6 +295,7 @@ tallied = main_alone (tally (codes "t") ∷ [])
     ∷ print (item.Value (var (codes "t")) ∷ [])
     ∷ [])
 
+-- all sums of a tally word are added
 abbrev pub SumOfTallies : Type 0
 SumOfTallies = Writes tallied 1000000 (line (codes "28")) []
 
@@ -276,6 +307,7 @@ total_too_large = main_alone (tally (codes "t") ∷ [])
     ∷ []) ∷ [])
     ∷ [])
 
+-- a total that does not fit 64 bits has no routine's name
 abbrev pub TotalOutOfRange : Type 0
 TotalOutOfRange = Writes total_too_large 1000000 [] (line (codes "fault: step 1: total at word 0"))
 
@@ -283,6 +315,7 @@ TotalOutOfRange = Writes total_too_large 1000000 [] (line (codes "fault: step 1:
 abbrev pub of_widths : List Expr → Program
 of_widths widths = main_alone [] (parallel (map (λ width. routine width []) widths) ∷ [])
 
+-- these widths are no step's
 abbrev pub BadWidths : List Expr → Type 0
 BadWidths widths = Writes (of_widths widths) 1000000 [] (line (codes "fault: after step 0: bad width"))
 
@@ -294,6 +327,7 @@ least_by_minus_one op = main_alone []
     ∷ print (item.Value (two (var (codes "m")) op (minus (number 1))) ∷ [])
     ∷ [])
 
+-- a quotient is cut towards zero, a remainder has the dividend's sign, and the least number by -1 overflows
 abbrev pub OverflowInMain : BinaryOp → Type 0
 OverflowInMain op = Writes (least_by_minus_one op) 1000000 (line (codes "-3 -1")) (line (codes "fault: after step 0: overflow"))
 
@@ -305,9 +339,11 @@ counting limit = main_alone []
     ∷ print (item.Value (var (codes "i")) ∷ [])
     ∷ [])
 
+-- three turns take three units
 abbrev pub FuelForThreeTurns : Type 0
 FuelForThreeTurns = Writes (counting 3) 3 (line (codes "3")) []
 
+-- and four turns take one more
 abbrev pub NoFuelForFourTurns : Type 0
 NoFuelForFourTurns = Writes (counting 4) 3 [] (line (codes "fault: after step 0: fuel spent"))
 
@@ -324,6 +360,7 @@ endless = record {
   main = print (item.Value (call (codes "f") (number 0 ∷ [])) ∷ []) ∷ [];
 }
 
+-- a call without end is too deep
 abbrev pub CallsTooDeep : Type 0
 CallsTooDeep = Writes endless 1000000 [] (line (codes "fault: after step 0: too deep"))
 
@@ -333,6 +370,7 @@ guarded = main_alone (scalar (codes "z") ∷ [])
     (print (item.Value (two (two (var (codes "z")) Ne (number 0)) And (two (two (number 1) Div (var (codes "z"))) Gt (number 0))) ∷ [])
     ∷ [])
 
+-- the right operand is not evaluated where the left one decides
 abbrev pub RightIsSkipped : Type 0
 RightIsSkipped = Writes guarded 1000000 (line (codes "false")) []
 
@@ -350,7 +388,7 @@ BadWidthComesFirst = Writes bad_width_without_fuel 1 [] (line (codes "fault: aft
 
 -- shared { int a[2]; } main { parbegin routine[2](int w, int id) { for (int k = 0; k < 3; k += 1) { a[id] += k; } } parend; print(a[0], a[1]); }
 abbrev pub own_loops : Program
-own_loops = main_alone (array (codes "a") 2 [] ∷ [])
+own_loops = main_alone (array (codes "a") 2 ∷ [])
     (parallel (routine (number 2) (count_to (codes "k") 3 (add_to (at_item (codes "a") id) (var (codes "k")) ∷ []) ∷ []) ∷ [])
     ∷ print_pair
     ∷ [])
@@ -359,6 +397,7 @@ own_loops = main_alone (array (codes "a") 2 [] ∷ [])
 abbrev pub FuelOfTheirOwn : Type 0
 FuelOfTheirOwn = Writes own_loops 3 (line (codes "3 3")) []
 
+-- a routine that spends its fuel is faulty
 abbrev pub RoutineSpendsItsFuel : Type 0
 RoutineSpendsItsFuel = Writes own_loops 2 [] (line (codes "fault: step 1, routine 0: fuel spent"))
 
@@ -382,12 +421,13 @@ descending n = record {
 abbrev pub CallsNest : Type 0
 CallsNest = Writes (descending 63) 1000000 (line (codes "7")) []
 
+-- the 65th call is too deep
 abbrev pub CallsNestTooDeep : Type 0
 CallsNestTooDeep = Writes (descending 64) 1000000 [] (line (codes "fault: after step 0: too deep"))
 
 -- shared { int a[2]; int z; } main { a[2] = 1 / z; }
 abbrev pub value_first : Program
-value_first = main_alone (array (codes "a") 2 [] ∷ scalar (codes "z") ∷ []) (set (at_item (codes "a") (number 2)) (two (number 1) Div (var (codes "z"))) ∷ [])
+value_first = main_alone (array (codes "a") 2 ∷ scalar (codes "z") ∷ []) (set (at_item (codes "a") (number 2)) (two (number 1) Div (var (codes "z"))) ∷ [])
 
 -- the value is evaluated before the index is tested
 abbrev pub ValueBeforeRange : Type 0
@@ -433,45 +473,78 @@ leaving = main_alone []
 abbrev pub LeavingLoops : Type 0
 LeavingLoops = Writes leaving 3 (line (codes "2")) []
 
--- shared { int a[64]; int b[64]; int c[64]; }
+-- k < 8
+abbrev pub below_eight : Expr
+below_eight = two (var (codes "k")) Lt (number 8)
+
+-- k += 1
+abbrev pub next_k : Stmt
+next_k = add_to (at_name (codes "k")) (number 1)
+
+-- v += a[r * 8 + k] * b[k * 8 + q];
+abbrev pub add_product : Stmt
+add_product =
+    add_to (at_name (codes "v"))
+    (two (read (at_item (codes "a") (two (two (var (codes "r")) Mul (number 8)) Add (var (codes "k"))))) Mul
+    (read (at_item (codes "b") (two (two (var (codes "k")) Mul (number 8)) Add (var (codes "q"))))))
+
+-- return v;
+abbrev pub return_v : Stmt
+return_v = s (form.Return (Some (var (codes "v"))))
+
 -- int cell(int r, int q) { int v = 0; for (int k = 0; k < 8; k += 1) { v += a[r * 8 + k] * b[k * 8 + q]; } return v; }
--- main {
---   parbegin routine[64](int w, int id) { a[id] = id / 8 + id % 8; if (id / 8 == id % 8) { b[id] = 2; } } parend;
---   parbegin routine[64](int w, int id) { c[id] = cell(id / 8, id % 8); } parend;
+abbrev cell : Function
+cell = record {
+  name = named (codes "cell");
+  gives = gives.Int;
+  params = record { name = named (codes "r"); ty = ty.Int } ∷ record { name = named (codes "q"); ty = ty.Int } ∷ [];
+  body =
+      declare (codes "v") (number 0)
+      ∷ s (form.For (declare (codes "k") (number 0)) below_eight next_k (add_product ∷ []))
+      ∷ return_v
+      ∷ [];
+}
+
+-- id / 8
+abbrev row : Expr
+row = two id Div (number 8)
+
+-- id % 8
+abbrev column : Expr
+column = two id Rem (number 8)
+
+-- routine[64](int w, int id) { a[id] = id / 8 + id % 8; if (id / 8 == id % 8) { b[id] = 2; } }
+abbrev filling : RoutineBlock
+filling = routine (number 64)
+    (set (at_item (codes "a") id) (two row Add column)
+    ∷ when (two row Eq column) (set (at_item (codes "b") id) (number 2) ∷ []) None
+    ∷ [])
+
+-- routine[64](int w, int id) { c[id] = cell(id / 8, id % 8); }
+abbrev pub multiplying : RoutineBlock
+multiplying = routine (number 64) (set (at_item (codes "c") id) (call (codes "cell") (row ∷ column ∷ [])) ∷ [])
+
+-- shared { int a[64]; int b[64]; int c[64]; } CELL main {
+--   parbegin FILLING parend; parbegin MULTIPLYING parend;
 --   int s = 0; for (int i = 0; i < 64; i += 1) { s += c[i]; } print("sum", s, "last", c[63]);
 -- }
--- c[id] = cell(id / 8, id % 8);
-abbrev pub multiply : Stmt
-multiply = set (at_item (codes "c") id) (call (codes "cell") (row ∷ column ∷ []))
-
 abbrev pub products : Program
 products = record {
-  shared = array (codes "a") 64 [] ∷ array (codes "b") 64 [] ∷ array (codes "c") 64 [] ∷ [];
-  functions = record {
-    name = named (codes "cell");
-    gives = gives.Int;
-    params = record { name = named (codes "r"); ty = ty.Int } ∷ record { name = named (codes "q"); ty = ty.Int } ∷ [];
-    body =
-        declare (codes "v") (number 0)
-        ∷ count_to (codes "k") 8
-        (add_to (at_name (codes "v")) (two (read (at_item (codes "a") (two (two (var (codes "r")) Mul (number 8)) Add (var (codes "k"))))) Mul (read (at_item (codes "b") (two (two (var (codes "k")) Mul (number 8)) Add (var (codes "q")))))) ∷ [])
-        ∷ s (form.Return (Some (var (codes "v"))))
-        ∷ [];
-  } ∷ [];
+  shared = array (codes "a") 64 ∷ array (codes "b") 64 ∷ array (codes "c") 64 ∷ [];
+  functions = cell ∷ [];
   main =
-      parallel (routine (number 64)
-      (set (at_item (codes "a") id) (two row Add column)
-      ∷ when (two row Eq column) (set (at_item (codes "b") id) (number 2) ∷ []) None
-      ∷ []) ∷ [])
-      ∷ parallel (routine (number 64) (multiply ∷ []) ∷ [])
+      parallel (filling ∷ [])
+      ∷ parallel (multiplying ∷ [])
       ∷ declare (codes "s") (number 0)
       ∷ count_to (codes "i") 64 (add_to (at_name (codes "s")) (read (at_item (codes "c") (var (codes "i")))) ∷ [])
       ∷ print (item.Text (named (codes "sum")) ∷ item.Value (var (codes "s")) ∷ item.Text (named (codes "last")) ∷ item.Value (read (at_item (codes "c") (number 63))) ∷ [])
       ∷ [];
 }
 
+-- two steps and 64 turns of main take 66 units; the calls and turns of the routines take none of these
 abbrev pub FuelForProducts : Type 0
 FuelForProducts = Writes products 66 (line (codes "sum 896 last 28")) []
 
+-- one unit fewer is spent at the last turn
 abbrev pub NoFuelForProducts : Type 0
 NoFuelForProducts = Writes products 65 [] (line (codes "fault: after step 2: fuel spent"))

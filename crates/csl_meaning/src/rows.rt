@@ -40,4 +40,6 @@ pub fn worked_rows()
     ensures value_before_range { rows.ValueBeforeRange }
     ensures value_before_reading { rows.ValueBeforeReading }
     ensures leaving_loops { rows.LeavingLoops }
+    ensures fuel_for_products { rows.FuelForProducts }
+    ensures no_fuel_for_products { rows.NoFuelForProducts }
 {}

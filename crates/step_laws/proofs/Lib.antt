@@ -3,5 +3,6 @@ pub mod Agreement
 pub mod Histories
 pub mod StepLaws
 pub mod Growth
+pub mod Leaves
 pub mod Rows
 mod HistoryRows

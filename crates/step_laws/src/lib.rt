@@ -14,6 +14,7 @@ ghost use Rattle.step_laws.specs.Laws.{
   CallerDeliversFirst,
   OneWriterEach,
 };
+ghost use Rattle.step_laws.specs.Leaves.{FaultyIsTested, AfterIsRight};
 ghost use Rattle.cal_base.specs.Pages.{LaterIsTransitive, WritesAreLater};
 ghost use Rattle.step_laws.specs.Rows.{
   DivisionCuts,
@@ -83,6 +84,13 @@ pub fn number_of_claims()
 pub fn answers_to_claims()
     ensures right { ClaimsAreRight }
     ensures caller { CallerDeliversFirst }
+{}
+
+/// What a step leaves is right: the fault of the least faulty number, or the least total outside 64 bits, or the memory
+/// in which each ordinary word has its one writer's value and each tally word its total.
+pub fn what_a_step_leaves()
+    ensures faulty { FaultyIsTested }
+    ensures right { AfterIsRight }
 {}
 
 /// Where nothing is faulty, each ordinary word has one writer at most.

@@ -1,4 +1,4 @@
-use Rattle.std.proofs.Common.{arith, ◌≡◌, ℕ}
+use Rattle.std.proofs.Common.{arith}
 use Rattle.cal_base.proofs.Pieces.{front_full}
 use Rattle.cal_base.proofs.host.read_front.Goals as goal
 

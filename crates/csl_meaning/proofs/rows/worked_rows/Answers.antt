@@ -1,4 +1,5 @@
 use Rattle.csl_meaning.proofs.Examples as examples
+use Rattle.csl_meaning.proofs.Products as products
 use Rattle.csl_meaning.proofs.rows.worked_rows.Goals as goal
 
 pub returns-clause-nothing_is_done : goal.returns-clause-nothing_is_done
@@ -102,3 +103,9 @@ returns-clause-value_before_reading c = examples.value_before_reading
 
 pub returns-clause-leaving_loops : goal.returns-clause-leaving_loops
 returns-clause-leaving_loops c = examples.leaving_loops
+
+pub returns-clause-fuel_for_products : goal.returns-clause-fuel_for_products
+returns-clause-fuel_for_products c = products.fuel_for_products
+
+pub returns-clause-no_fuel_for_products : goal.returns-clause-no_fuel_for_products
+returns-clause-no_fuel_for_products c = products.no_fuel_for_products
