@@ -4,3 +4,4 @@ pub mod Rules
 pub mod Steps
 pub mod Then
 pub mod Declared
+pub mod StatementParts
