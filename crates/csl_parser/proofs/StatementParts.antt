@@ -181,3 +181,16 @@ change_back first name n (add_to p a v) = place_back first name n p (that (seq (
 
 pub change_same : (first : Token) (name : Name) (tokens : List Token) → first.kind ≡ kind.Named name → Passes (ChangeRest first name) (behind first SpellsChange) (Stops whole) tokens tokens
 change_same first name tokens n = passes_same (ChangeRest first name) (behind first SpellsChange) (Stops whole) tokens (record { there = λ ts r s d. change_there first name n d; back = λ ts r s d h. change_back first name n d })
+
+-- ---- what stands behind a statement
+
+pub no_else_found : (s : Stmt) (tokens : List Token) (next : Token) (rest : List Token) → IsEnded tokens → tokens ≡ next ∷ rest → (next.kind ≡ kind.Word word.Else → ⊥) → Found (Ret s) NoElse tokens tokens s
+no_else_found s tokens next rest ended split other = ret_found s NoElse tokens (begins_other (kind.Word word.Else) tokens next rest split other) ended
+
+ret_else : {s tree : Stmt} {next : Token} {others r : List Token} → Ret s (next ∷ others) r tree → next.kind ≡ kind.Word word.Else → NoElse r → ⊥
+ret_else ret k h = h k
+
+pub else_refused : (s : Stmt) (tokens : List Token) (next : Token) (rest : List Token) → tokens ≡ next ∷ rest → next.kind ≡ kind.Word word.Else → Refused (Ret s) NoElse tokens next.at
+else_refused s tokens next rest split k =
+    let at : List Token → Type 0 = λ x. Refused (Ret s) NoElse x next.at in
+    subst at (sym split) (refused_here (Ret s) NoElse next rest (λ others r tree d h. ret_else d k h) [] s (λ others. ret))

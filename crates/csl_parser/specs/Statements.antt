@@ -46,6 +46,14 @@ ChangeRest first name = Either (Changing first (place name None)) (Then (Tok (ki
 abbrev pub CallRest : Token → Name → List Token → List Token → Stmt → Type 0
 CallRest first name = Then SpellsClosed (λ args. EndsAs (stmt first.at (form.CallOf (call name args))))
 
+-- behind the type of a local: the declaration and ";"
+abbrev pub LocalRest : Token → Ty → List Token → List Token → Stmt → Type 0
+LocalRest first t = Then (DeclRest first t) EndsAs
+
+-- behind a name at the front of a statement: a change and ";", or a call and ";"
+abbrev pub NamedRest : Token → Name → List Token → List Token → Stmt → Type 0
+NamedRest first name = Either (Then (ChangeRest first name) EndsAs) (Then (Tok (kind.Mark mark.OpenParen)) (λ opening. CallRest first name))
+
 -- the statements of a block, behind its brace
 abbrev pub BlockRest : List Token → List Token → List Stmt → Type 0
 BlockRest = Until (kind.Mark mark.CloseBrace) SpellsStmt []

@@ -247,7 +247,7 @@ fn called<'a>(
 
 /// The arguments of a call and the parenthesis behind them.
 #[cycle(expr)]
-fn arguments<'a>(
+pub fn arguments<'a>(
     alloc: Global,
     tokens: &'a [Token],
 ) -> Result<(Items<Expr>, &'a [Token]), ParseError>
