@@ -6,3 +6,6 @@ mod top;
 
 pub use ending::Ending;
 pub use top::{calypso, out_of_memory};
+
+#[cfg(test)]
+mod tests;
