@@ -6,3 +6,4 @@ pub mod StatementLemmas
 pub mod LocalLemmas
 pub mod EndLemmas
 pub mod FunctionLemmas
+pub mod WordLemmas

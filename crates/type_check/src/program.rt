@@ -4,6 +4,7 @@ ghost use Rattle.std.specs.Prelude.{◌≡◌, ◌++◌, map, OnOk, IfOk, IfErr}
 ghost use Rattle.type_check.specs.Faults as faults;
 ghost use Rattle.type_check.specs.Listed.{beyond};
 ghost use Rattle.type_check.specs.Noted.{noted, nothing_found};
+ghost use Rattle.csl_grammar.specs.Texts.{IsSpelledWithin, text_limit};
 ghost use Rattle.type_check.specs.Refusal.{IsRefusal};
 
 use crate::body::{Body, Here};
@@ -81,8 +82,9 @@ fn check_program(alloc: Global, p: &Program) -> Result<Found, NoMemory>
     Ok(found)
 }
 
-/// The program, if it has no faults, and else its first fault.
+/// The program, if it has no faults, and else its first fault by position and then by number.
 pub fn check(alloc: Global, p: Program) -> Result<Checked, CheckError>
+    requires { IsSpelledWithin text_limit p }
     ensures accepted { IfOk result (λ c. (c ≡ p) × faults.IsAccepted p) }
     ensures refused { IfErr result (IsRefusal p) }
 {

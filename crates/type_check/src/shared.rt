@@ -1,6 +1,7 @@
 //! Shared declarations.
 
 ghost use Rattle.std.specs.Prelude.{◌≡◌, ◌≤◌, map, OnOk};
+ghost use Rattle.type_check.specs.Words.{AreSized, total_words};
 ghost use Rattle.type_check.specs.Faults as faults;
 ghost use Rattle.type_check.specs.Noted.{noted};
 
@@ -108,4 +109,17 @@ pub fn check_words(found: &mut Found, shared: &[Shared])
             return;
         }
     }
+}
+
+/// How many words shared declarations take in all, where none stands at a limit.
+pub(crate) fn count_words(shared: &[Shared]) -> u32
+    requires sized { AreSized shared.now }
+    requires few { total_words shared.now ≤ faults.most_words }
+    ensures { result ≡ total_words shared.now }
+{
+    let mut total: u32 = 0;
+    for s in shared {
+        total += words_of(&s.size);
+    }
+    total
 }
