@@ -1,0 +1,7 @@
+pub mod Sequence
+pub mod Single
+pub mod Rules
+pub mod Steps
+pub mod Then
+pub mod Declared
+pub mod StatementParts

@@ -1,0 +1,27 @@
+use Rattle.std.proofs.Common.{Some, refl, ◌≡◌, ◌≤◌, ◌∙◌, sym, ap, arith, rules, List, length, [], ◌∷◌, ◌++◌}
+use Rattle.std.proofs.lemmas.Result.{err_from_is_err_and}
+use Rattle.csl_tree.specs.declared.token.Token.{Token}
+use Rattle.csl_tree.specs.declared.token.TokenKind.TheVariants as kind
+use Rattle.csl_tree.specs.declared.token.Keyword.TheVariants as word
+use Rattle.csl_tree.specs.declared.token.Mark.TheVariants as mark
+use Rattle.csl_tree.specs.declared.program.Valued.{Valued}
+use mir.Val.{SFits}
+use mir.Syntax.{w64}
+use Rattle.std.proofs.lemmas.Int.{to_z-of_z}
+use Rattle.csl_grammar.specs.Programs.{SpellsShared, SpellsValue}
+use Rattle.csl_parser.specs.Reading.{stops_anywhere, natural_of, ListUntil}
+use Rattle.csl_parser.specs.Chains.{scalar_of, tally_of, array_of, TallyRest, IntRest, AfterName, ArrayRest, AfterSize, ListedRest}
+use Rattle.csl_parser.proofs.Sequence.{passed, passed_error, passes_through}
+use Rattle.csl_parser.proofs.Steps.{from_first}
+use Rattle.csl_parser.proofs.Then.{then_first, then_second, then_found, then_answers, then_passes, tok_found, tok_err, ret_found, begins_other}
+use Rattle.csl_parser.proofs.Declared as d
+use Rattle.csl_parser.proofs.decl.negative.Goals as goal
+
+pub returns-in-Some-clause-answer : goal.returns-in-Some-clause-answer
+returns-in-Some-clause-answer c =
+    let fits : SFits w64 c.in-Some.n = search rules in
+    let found : natural_of c.front.result.0.now.kind ≡ Some c.in-Some.n = cc (c.natural.ensures, c.in-Some.is) in
+    rw (to_z-of_z w64 c.in-Some.n fits, d.negated c.in-Some.n _ found fits) (d.negative_found c.args.sign.now c.args.tokens.now _ _ c.in-Some.n c.requires.sign c.requires.ended c.front.ensures found)
+
+pub returns-in-None-clause-answer : goal.returns-in-None-clause-answer
+returns-in-None-clause-answer c = d.negative_refused c.args.sign.now c.args.tokens.now _ _ c.requires.sign c.front.ensures (cc (c.natural.ensures, c.in-None.is))

@@ -1,0 +1,196 @@
+//! Shared declarations.
+
+ghost use Rattle.std.specs.Prelude.{◌≡◌, ◌<◌, ◌≤◌, IfOk, length};
+ghost use Rattle.csl_tree.specs.declared.token.TokenKind.TheVariants as kind;
+ghost use Rattle.csl_tree.specs.declared.token.Mark.TheVariants as mark;
+ghost use Rattle.csl_grammar.specs.Programs.{SpellsShared, SpellsValue};
+ghost use Rattle.csl_grammar.specs.Stops.{IsEnded};
+ghost use Rattle.csl_parser.specs.Reading.{Answers, ListUntil, behind, stops_anywhere};
+ghost use Rattle.csl_parser.specs.Chains.{TallyRest, IntRest, AfterName, ArrayRest, AfterSize, ListedRest};
+
+use crate::ParseError;
+use crate::tokens::{
+    comma, copy_of, expect, expect_name, expect_number, expect_word, front, is_mark, is_word, natural,
+    number,
+};
+use cal_base::WordKind;
+use csl_tree::name::Name;
+use csl_tree::program::{ArraySize, Shared, Valued};
+use csl_tree::token::{Keyword, Mark, Token};
+use sqlite_items::Items;
+use std::alloc::Global;
+
+/// A shared declaration.
+pub fn shared(alloc: Global, tokens: &[Token]) -> Result<(Shared, &[Token]), ParseError>
+    requires { IsEnded tokens.now }
+    ensures answer { Answers SpellsShared stops_anywhere tokens.now (λ x. (x.0, x.1.now)) result }
+    ensures shorter { IfOk result (λ x. length x.1.now < length tokens.now) }
+{
+    let (first, rest) = front(tokens);
+    if is_word(first, Keyword::Tally) {
+        return tally(alloc, rest);
+    }
+    if is_word(first, Keyword::Int) {
+        return ordinary(alloc, rest);
+    }
+    Err(ParseError::Unexpected(first.at))
+}
+
+// A tally word, behind its first keyword.
+fn tally(alloc: Global, tokens: &[Token]) -> Result<(Shared, &[Token]), ParseError>
+    requires { IsEnded tokens.now }
+    ensures answer { Answers TallyRest stops_anywhere tokens.now (λ x. (x.0, x.1.now)) result }
+    ensures shorter { IfOk result (λ x. length x.1.now < length tokens.now) }
+{
+    let (_, rest) = expect_word(Keyword::Int, tokens)?;
+    let (name, rest) = expect_name(rest)?;
+    let (_, rest) = expect(Mark::Semicolon, rest)?;
+    let declared = Shared {
+        name: copy_of(alloc, name)?,
+        kind: WordKind::Tally,
+        size: None,
+        values: Items::new(alloc),
+        listed: false,
+    };
+    Ok((declared, rest))
+}
+
+// An ordinary word or an array, behind its keyword.
+fn ordinary(alloc: Global, tokens: &[Token]) -> Result<(Shared, &[Token]), ParseError>
+    requires { IsEnded tokens.now }
+    ensures answer { Answers IntRest stops_anywhere tokens.now (λ x. (x.0, x.1.now)) result }
+    ensures shorter { IfOk result (λ x. length x.1.now < length tokens.now) }
+{
+    let (name, rest) = expect_name(tokens)?;
+    let (next, behind) = front(rest);
+    if is_mark(next, Mark::OpenBracket) {
+        return array(alloc, name, behind);
+    }
+    let (_, rest) = expect(Mark::Semicolon, rest)?;
+    let declared = Shared {
+        name: copy_of(alloc, name)?,
+        kind: WordKind::Ordinary,
+        size: None,
+        values: Items::new(alloc),
+        listed: false,
+    };
+    Ok((declared, rest))
+}
+
+// An array, behind the bracket.
+fn array<'a>(
+    alloc: Global,
+    name: &'a Name,
+    tokens: &'a [Token],
+) -> Result<(Shared, &'a [Token]), ParseError>
+    requires { IsEnded tokens.now }
+    ensures answer { Answers (ArrayRest name.now) stops_anywhere tokens.now (λ x. (x.0, x.1.now)) result }
+    ensures shorter { IfOk result (λ x. length x.1.now < length tokens.now) }
+{
+    let (size, rest) = expect_number(tokens)?;
+    let (_, rest) = expect(Mark::CloseBracket, rest)?;
+    let (next, behind) = front(rest);
+    if is_mark(next, Mark::Assign) {
+        return listed(alloc, name, size, behind);
+    }
+    let (_, rest) = expect(Mark::Semicolon, rest)?;
+    let declared = Shared {
+        name: copy_of(alloc, name)?,
+        kind: WordKind::Ordinary,
+        size: Some(size),
+        values: Items::new(alloc),
+        listed: false,
+    };
+    Ok((declared, rest))
+}
+
+// The listed values of an array, behind the sign.
+fn listed<'a>(
+    alloc: Global,
+    name: &'a Name,
+    size: ArraySize,
+    tokens: &'a [Token],
+) -> Result<(Shared, &'a [Token]), ParseError>
+    requires { IsEnded tokens.now }
+    ensures answer { Answers (ListedRest name.now size) stops_anywhere tokens.now (λ x. (x.0, x.1.now)) result }
+    ensures shorter { IfOk result (λ x. length x.1.now < length tokens.now) }
+{
+    let (_, rest) = expect(Mark::OpenBrace, tokens)?;
+    let (values, rest) = values(alloc, rest)?;
+    let (_, rest) = expect(Mark::Semicolon, rest)?;
+    let declared = Shared {
+        name: copy_of(alloc, name)?,
+        kind: WordKind::Ordinary,
+        size: Some(size),
+        values,
+        listed: true,
+    };
+    Ok((declared, rest))
+}
+
+// Values with commas between, and the brace behind them.
+fn values(alloc: Global, tokens: &[Token]) -> Result<(Items<Valued>, &[Token]), ParseError>
+    requires { IsEnded tokens.now }
+    ensures answer { Answers (ListUntil (kind.Mark mark.CloseBrace) SpellsValue) stops_anywhere tokens.now (λ x. (x.0, x.1.now)) result }
+    ensures shorter { IfOk result (λ x. length x.1.now < length tokens.now) }
+{
+    let mut values = Items::new(alloc);
+    let (next, rest) = front(tokens);
+    if is_mark(next, Mark::CloseBrace) {
+        return Ok((values, rest));
+    }
+    let (v, mut rest) = value(tokens)?;
+    values.push(v)?;
+    'more: while let Some(behind) = comma(rest) {
+        let (v, left) = value(behind)?;
+        values.push(v)?;
+        rest = left;
+    }
+    let (_, rest) = expect(Mark::CloseBrace, rest)?;
+    Ok((values, rest))
+}
+
+// An initial value.
+fn value(tokens: &[Token]) -> Result<(Valued, &[Token]), ParseError>
+    requires { IsEnded tokens.now }
+    ensures answer { Answers SpellsValue stops_anywhere tokens.now (λ x. (x.0, x.1.now)) result }
+    ensures shorter { IfOk result (λ x. length x.1.now < length tokens.now) }
+{
+    let (first, rest) = front(tokens);
+    if is_mark(first, Mark::Minus) {
+        return negative(first, rest);
+    }
+    match number(first) {
+        Some(number) => Ok((
+            Valued {
+                at: first.at,
+                number,
+            },
+            rest,
+        )),
+        None => Err(ParseError::Unexpected(first.at)),
+    }
+}
+
+// A negative initial value, behind its sign.
+fn negative<'a>(
+    sign: &'a Token,
+    tokens: &'a [Token],
+) -> Result<(Valued, &'a [Token]), ParseError>
+    requires sign { sign.now.kind ≡ kind.Mark mark.Minus }
+    requires ended { IsEnded tokens.now }
+    ensures answer { Answers (behind sign.now SpellsValue) stops_anywhere tokens.now (λ x. (x.0, x.1.now)) result }
+    ensures shorter { IfOk result (λ x. length x.1.now < length tokens.now) }
+{
+    let (first, rest) = front(tokens);
+    match natural(first) {
+        Some(n) => Ok((
+            Valued {
+                at: sign.at,
+                number: -n,
+            },
+            rest,
+        )),
+        None => Err(ParseError::Unexpected(first.at)),
+    }
+}
