@@ -32,12 +32,13 @@ all-sized : (names : Names) (shared : List Shared) → shared_faults names share
 all-sized names [] e = tt {0}
 all-sized names (s ∷ rest) e =
     let values = value_faults s.size (map (λ v. v.at) s.values) in
-    let others = shared_faults (declare names s.name (stands_for s.size s.kind)) rest in
-    ( sized s.size (none_in_second (taken names s.name) (size_faults s.size)
-        (none_in_first (taken names s.name ++ size_faults s.size) values
-        (none_in_first (taken names s.name ++ size_faults s.size ++ values) others e)))
-    , all-sized (declare names s.name (stands_for s.size s.kind)) rest
-        (none_in_second (taken names s.name ++ size_faults s.size ++ values) others e))
+    let others = shared_faults (declare names s.name (stands_for s.size s.kind)) rest in (
+      sized s.size (none_in_second (taken names s.name) (size_faults s.size)
+          (none_in_first (taken names s.name ++ size_faults s.size) values
+          (none_in_first (taken names s.name ++ size_faults s.size ++ values) others e))),
+      all-sized (declare names s.name (stands_for s.size s.kind)) rest
+          (none_in_second (taken names s.name ++ size_faults s.size ++ values) others e),
+    )
 
 -- a good size is counted as it stands
 good-size-is : (z : ℤ) → IsGoodSize z → good_size z ≡ natural z
@@ -77,9 +78,9 @@ accepted-sized p e =
 pub accepted-words : (p : Program) → IsAccepted p → total_words p.shared ≤ most_words
 accepted-words p e =
     let none = none_in_second (shared_faults [] p.shared) (word_faults 0 p.shared)
-      (none_in_first (shared_faults [] p.shared ++ word_faults 0 p.shared) (all_function_faults (with_shared [] p.shared) p.functions)
-      (none_in_first (shared_faults [] p.shared ++ word_faults 0 p.shared ++ all_function_faults (with_shared [] p.shared) p.functions) (beyond most_functions (map (λ f. f.name.at) p.functions))
-      (none_in_first (shared_faults [] p.shared ++ word_faults 0 p.shared ++ all_function_faults (with_shared [] p.shared) p.functions ++ beyond most_functions (map (λ f. f.name.at) p.functions)) (main_faults (global_names p) p.main)
-      (accepted_none p e)))) in
+    (none_in_first (shared_faults [] p.shared ++ word_faults 0 p.shared) (all_function_faults (with_shared [] p.shared) p.functions)
+    (none_in_first (shared_faults [] p.shared ++ word_faults 0 p.shared ++ all_function_faults (with_shared [] p.shared) p.functions) (beyond most_functions (map (λ f. f.name.at) p.functions))
+    (none_in_first (shared_faults [] p.shared ++ word_faults 0 p.shared ++ all_function_faults (with_shared [] p.shared) p.functions ++ beyond most_functions (map (λ f. f.name.at) p.functions)) (main_faults (global_names p) p.main)
+    (accepted_none p e)))) in
     let bounded = words-bounded 0 p.shared (omega arith) (accepted-sized p e) none in
     omega arith

@@ -85,8 +85,8 @@ abbrev pub word_faults : ℕ → List Shared → List Fault
 word_faults before [] = []
 word_faults before (s ∷ rest) =
     if nat_le (before + words_of s.size) most_words
-        then word_faults (before + words_of s.size) rest
-        else fault Limit s.name.at
+    then word_faults (before + words_of s.size) rest
+    else fault Limit s.name.at
 
 -- ---- functions
 

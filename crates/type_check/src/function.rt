@@ -15,9 +15,9 @@ use crate::locals::push_locals;
 use crate::names::{Declaration, Signature};
 use crate::stmt::{check_block, declare_local, note_many_locals, note_taken};
 use crate::table::Table;
+use cal_base::NoMemory;
 use csl_tree::program::{Function, Gives, Param};
 use sqlite_items::Items;
-use cal_base::NoMemory;
 use std::alloc::Global;
 
 /// What a function's name stands for.

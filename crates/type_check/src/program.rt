@@ -16,9 +16,9 @@ use crate::locals::push_locals;
 use crate::shared::{check_shared, check_words};
 use crate::stmt::{check_block, note_many_locals};
 use crate::table::Table;
+use cal_base::NoMemory;
 use csl_tree::program::{Function, Program, Stmt};
 use sqlite_items::Items;
-use cal_base::NoMemory;
 use std::alloc::Global;
 
 /// Notes the faults of functions, and declares them.

@@ -9,9 +9,8 @@ use crate::fault::CheckKind;
 use crate::found::Found;
 use crate::names::Declaration;
 use crate::table::Table;
-use cal_base::WordKind;
+use cal_base::{NoMemory, WordKind};
 use csl_tree::program::{ArraySize, Shared, Valued};
-use cal_base::NoMemory;
 
 /// A size, and 0 for one that is too large.
 fn good_size(number: i64) -> u32

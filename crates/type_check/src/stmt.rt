@@ -12,17 +12,18 @@ ghost use Rattle.type_check.specs.Lists.{statements_of, arms_of, after_all, bloc
 
 use crate::body::{Body, Here};
 use crate::expr::{
-    check_call, check_expr, check_place, given, meant, note_place_tally, of_ty, same, want, want_value,
+    check_call, check_expr, check_place, given, meant, note_place_tally, of_ty, same, want,
+    want_value,
 };
 use crate::fault::CheckKind;
 use crate::found::Found;
+use crate::locals::push_locals;
 use crate::names::{Declaration, Typed};
 use crate::table::Table;
+use cal_base::NoMemory;
 use csl_tree::name::Name;
-use crate::locals::push_locals;
 use csl_tree::program::{Arm, Expr, Form, Gives, Item, Place, RoutineBlock, Stmt, Ty};
 use sqlite_items::Items;
-use cal_base::NoMemory;
 use std::alloc::Global;
 
 fn is_main(body: Body) -> bool

@@ -1,9 +1,9 @@
 //! Names in the order of declaration.
 
 use crate::names::Declaration;
+use cal_base::NoMemory;
 use csl_tree::name::{Name, Text};
 use indexmap::IndexMap;
-use cal_base::NoMemory;
 use std::alloc::Global;
 use std::marker::Model;
 
