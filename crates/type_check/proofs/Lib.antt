@@ -7,3 +7,4 @@ pub mod LocalLemmas
 pub mod EndLemmas
 pub mod FunctionLemmas
 pub mod WordLemmas
+pub mod Examples
