@@ -8,3 +8,4 @@ pub mod EndLemmas
 pub mod FunctionLemmas
 pub mod WordLemmas
 pub mod Examples
+pub mod Facts
