@@ -7,3 +7,5 @@ pub mod LocalLemmas
 pub mod EndLemmas
 pub mod FunctionLemmas
 pub mod WordLemmas
+pub mod Examples
+pub mod Facts

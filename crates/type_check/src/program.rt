@@ -93,38 +93,3 @@ pub fn check(alloc: Global, p: Program) -> Result<Checked, CheckError>
         Err(_) => Err(CheckError::NoMemory),
     }
 }
-
-#[cfg(test)]
-mod tests {
-    use super::*;
-    use csl_tree::program::Form;
-    use std::test::Fail;
-
-    #[test]
-    fn accepts_nothing_and_refuses_a_break(rt: HostRuntime) -> Result<(), Fail> {
-        let alloc = rt.alloc();
-        let empty = Program {
-            shared: Items::new(alloc),
-            functions: Items::new(alloc),
-            main: Items::new(alloc),
-        };
-        assert!(rt; check(alloc, empty).is_ok());
-        let mut main = Items::new(alloc);
-        main.push(Stmt {
-            at: 18,
-            form: Form::Break,
-        })?;
-        let program = Program {
-            shared: Items::new(alloc),
-            functions: Items::new(alloc),
-            main,
-        };
-        let refused = check(alloc, program).err();
-        let wanted = CheckError::Refused {
-            at: 18,
-            kind: CheckKind::NotInLoop,
-        };
-        assert_eq!(rt; refused, Some(wanted));
-        Ok(())
-    }
-}
