@@ -4,6 +4,7 @@
 mod decl;
 mod expr;
 mod simple;
+
 mod tokens;
 
 use std::alloc::{AllocError, AllocFailed};
