@@ -9,6 +9,7 @@ use Rattle.csl_tree.specs.declared.token.Keyword.TheVariants as word
 use Rattle.csl_tree.specs.declared.token.Mark.{Mark}
 use Rattle.csl_tree.specs.declared.token.Mark.TheVariants as mark
 use Rattle.csl_tree.specs.declared.program.Ty.{Ty}
+use Rattle.csl_tree.specs.declared.program.Ty.TheVariants as ty
 use Rattle.csl_tree.specs.declared.program.Expr.{Expr}
 use Rattle.csl_tree.specs.declared.program.Place.{Place}
 use Rattle.csl_tree.specs.declared.program.Item.{Item}
@@ -26,7 +27,7 @@ use Rattle.csl_grammar.proofs.Unique.{unique, unique_arguments, stops_at, operat
 use Rattle.csl_grammar.proofs.UniqueParts.{type_word-same, no_text, unique_item, unique_items, unique_decl, unique_change, no_item, no_expression, semicolon_begins_none, stops_semicolon, stops_paren, stops_bracket, stops_comma}
 use Rattle.csl_grammar.proofs.UniqueProgram.{form_is, form_at, unique_start, by_word, by_name, type_form, form_of_change, form_of_call}
 use Rattle.csl_parser.specs.Reading.{Found, Refused, Fails, Answers, IsToken, Tok, tok, NameTok, name_tok, Ret, ret, Then, seq, Either, this, that, ListUntil, MoreUntil, SpellsClosed, at_mark, behind, stops_anywhere}
-use Rattle.csl_parser.specs.Statements.{NoElse, EndsAs, DeclRest, Changing, IndexedRest, ChangeRest, CallRest, ReturnRest, AssertRest, PrintRest}
+use Rattle.csl_parser.specs.Statements.{NoElse, EndsAs, DeclRest, Changing, IndexedRest, ChangeRest, CallRest, ReturnRest, AssertRest, PrintRest, SecondName, TwoNames, both}
 use Rattle.csl_parser.proofs.Sequence.{Passes, passes_same, passes_behind, passes_through, passed, passed_error, refused_here}
 use Rattle.csl_parser.proofs.Rules.{stops_same, unique_closed}
 use Rattle.csl_parser.proofs.Steps.{operator_kind}
@@ -422,3 +423,62 @@ goes_on_refused {T = T} tree tokens next rest split never =
 
 pub operator_goes_on : (next : Token) (op : BinaryOp) (others : List Token) → at_mark operator_of next.kind ≡ Some op → Stops whole (next ∷ others) → ⊥
 operator_goes_on next op others is s = s.no_operator op (level_most op) (operator_kind next.kind op is)
+
+-- ---- heads of loops and routines
+
+no_change_begins : {first : Token} {all ts r : List Token} {s : Stmt} → SpellsChange all r s → all ≡ first ∷ ts → ((n : Name) → first.kind ≡ kind.Named n → ⊥) → ⊥
+no_change_begins (set (bare {name = n} k) a v) e never = never n (cc)
+no_change_begins (set (indexed {name = n} k o i c) a v) e never = never n (cc)
+no_change_begins (add_to (bare {name = n} k) a v) e never = never n (cc)
+no_change_begins (add_to (indexed {name = n} k o i c) a v) e never = never n (cc)
+
+some_change : Completes SpellsChange
+some_change = record {
+  ending = some_token (kind.Named no_name) ∷ some_token (kind.Mark mark.Assign) ∷ some_expr.ending;
+  finished = stmt 0 (form.Set (place no_name None) some_expr.finished);
+  some = λ others. set (bare refl) refl (some_expr.some others);
+}
+
+pub change_refused : (tokens : List Token) (first : Token) (rest : List Token) → tokens ≡ first ∷ rest → ((n : Name) → first.kind ≡ kind.Named n → ⊥) → Refused SpellsChange (Stops whole) tokens first.at
+change_refused tokens first rest split never =
+    let at : List Token → Type 0 = λ x. Refused SpellsChange (Stops whole) x first.at in
+    subst at (sym split) (refused_here SpellsChange (Stops whole) first rest (λ others r s d h. no_change_begins d refl never) some_change.ending some_change.finished some_change.some)
+
+start_decl_back : {first : Token} (t : Ty) {all ts r : List Token} {s : Stmt} → first.kind ≡ kind.Word (type_word t) → all ≡ first ∷ ts → SpellsStart all r s → SpellsDecl all r s
+start_decl_back t w e (declares d) = d
+start_decl_back t w e (changes d) = absurd (no_change_begins d e (λ n same. cc))
+
+pub start_decl : (t : Ty) (tokens : List Token) (first : Token) (rest : List Token) → tokens ≡ first ∷ rest → first.kind ≡ kind.Word (type_word t) → Passes SpellsDecl SpellsStart (Stops whole) tokens tokens
+start_decl t tokens first rest split w = narrowed SpellsDecl SpellsStart (Stops whole) tokens first rest split (λ ts r s d. declares d) (λ ts r b s e d h. start_decl_back t w e d)
+
+start_change_back : {first : Token} {all ts r : List Token} {s : Stmt} → (first.kind ≡ kind.Word word.Int → ⊥) → (first.kind ≡ kind.Word word.Bool → ⊥) → all ≡ first ∷ ts → SpellsStart all r s → SpellsChange all r s
+start_change_back i b e (changes d) = d
+start_change_back i b e (declares (declare {t = ty.Int} w n a v)) = absurd (i (cc))
+start_change_back i b e (declares (declare {t = ty.Bool} w n a v)) = absurd (b (cc))
+
+pub start_change : (tokens : List Token) (first : Token) (rest : List Token) → tokens ≡ first ∷ rest → (first.kind ≡ kind.Word word.Int → ⊥) → (first.kind ≡ kind.Word word.Bool → ⊥) → Passes SpellsChange SpellsStart (Stops whole) tokens tokens
+start_change tokens first rest split i b = narrowed SpellsChange SpellsStart (Stops whole) tokens first rest split (λ ts r s d. changes d) (λ ts r x s e d h. start_change_back i b e d)
+
+pub last_name : (one two : Name) → Follows (Tok (kind.Mark mark.CloseParen)) stops_anywhere (λ closing. Ret (both one two)) stops_anywhere
+last_name one two = tok_follows (kind.Mark mark.CloseParen) stops_anywhere (λ closing. completes_ret (both one two))
+
+pub second_name : (one : Name) → Follows NameTok stops_anywhere (λ two. Then (Tok (kind.Mark mark.CloseParen)) (λ closing. Ret (both one two))) stops_anywhere
+second_name one = name_follows stops_anywhere (λ two. completes_then (completes_tok (kind.Mark mark.CloseParen)) (λ closing. completes_ret (both one two)))
+
+some_second : (one : Name) → Completes (SecondName one)
+some_second one = completes_then (completes_tok (kind.Word word.Int)) (λ int. completes_then completes_name (λ two. completes_then (completes_tok (kind.Mark mark.CloseParen)) (λ closing. completes_ret (both one two))))
+
+pub second_int : (one : Name) → Follows (Tok (kind.Word word.Int)) stops_anywhere (λ int. Then NameTok (λ two. Then (Tok (kind.Mark mark.CloseParen)) (λ closing. Ret (both one two)))) stops_anywhere
+second_int one = tok_follows (kind.Word word.Int) stops_anywhere (λ int. completes_then completes_name (λ two. completes_then (completes_tok (kind.Mark mark.CloseParen)) (λ closing. completes_ret (both one two))))
+
+pub name_comma : (one : Name) → Follows (Tok (kind.Mark mark.Comma)) stops_anywhere (λ comma. SecondName one) stops_anywhere
+name_comma one = tok_follows (kind.Mark mark.Comma) stops_anywhere (λ comma. some_second one)
+
+pub first_name : Follows NameTok stops_anywhere (λ one. Then (Tok (kind.Mark mark.Comma)) (λ comma. SecondName one)) stops_anywhere
+first_name = name_follows stops_anywhere (λ one. completes_then (completes_tok (kind.Mark mark.Comma)) (λ comma. some_second one))
+
+pub first_int : Follows (Tok (kind.Word word.Int)) stops_anywhere (λ int. Then NameTok (λ one. Then (Tok (kind.Mark mark.Comma)) (λ comma. SecondName one))) stops_anywhere
+first_int = tok_follows (kind.Word word.Int) stops_anywhere (λ int. completes_then completes_name (λ one. completes_then (completes_tok (kind.Mark mark.Comma)) (λ comma. some_second one)))
+
+pub names_opening : Follows (Tok (kind.Mark mark.OpenParen)) stops_anywhere (λ opening. Then (Tok (kind.Word word.Int)) (λ int. Then NameTok (λ one. Then (Tok (kind.Mark mark.Comma)) (λ comma. SecondName one)))) stops_anywhere
+names_opening = tok_follows (kind.Mark mark.OpenParen) stops_anywhere (λ opening. completes_then (completes_tok (kind.Word word.Int)) (λ int. completes_then completes_name (λ one. completes_then (completes_tok (kind.Mark mark.Comma)) (λ comma. some_second one))))

@@ -3,6 +3,7 @@
 
 mod decl;
 mod expr;
+mod heads;
 mod simple;
 
 mod tokens;
