@@ -5,3 +5,4 @@ pub mod Steps
 pub mod Then
 pub mod Declared
 pub mod StatementParts
+pub mod Leaves

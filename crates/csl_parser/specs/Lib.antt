@@ -1,3 +1,4 @@
 pub mod Reading
 pub mod Chains
 pub mod Statements
+pub mod Leaves

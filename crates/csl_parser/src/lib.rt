@@ -4,6 +4,7 @@
 mod decl;
 mod expr;
 mod heads;
+mod leaf;
 mod simple;
 
 mod tokens;
