@@ -227,11 +227,11 @@ begins_other k [] no_form h = tt
 begins_other k (token ∷ tokens) no_form h = λ same. h (ap (λ x. form_of_kind x tokens) same ∙ no_form tokens)
 
 -- no statement begins with a closing brace
-no_stmt_closes : {ts rest behind : List Token} {s : Stmt} {closing : Token} → SpellsStmt ts rest s → ts ≡ closing ∷ behind → IsMark closing mark.CloseBrace → ⊥
+pub no_stmt_closes : {ts rest behind : List Token} {s : Stmt} {closing : Token} → SpellsStmt ts rest s → ts ≡ closing ∷ behind → IsMark closing mark.CloseBrace → ⊥
 no_stmt_closes {behind = behind} {closing = closing} d e k = has_form d (ap form_at e ∙ by_mark closing behind k)
 
 -- in front of the end of a block stands no `else`
-stmts_no_else : {ts rest behind : List Token} {ss : List Stmt} {closing : Token} → SpellsStmts ts rest ss → rest ≡ closing ∷ behind → IsMark closing mark.CloseBrace → NoElse ts
+pub stmts_no_else : {ts rest behind : List Token} {ss : List Stmt} {closing : Token} → SpellsStmts ts rest ss → rest ≡ closing ∷ behind → IsMark closing mark.CloseBrace → NoElse ts
 stmts_no_else {behind = behind} {closing = closing} none e k = subst NoElse (sym e) (at_closing closing behind k)
   where
     at_closing : (closing : Token) (behind : List Token) → IsMark closing mark.CloseBrace → NoElse (closing ∷ behind)

@@ -6,3 +6,4 @@ pub mod Then
 pub mod Declared
 pub mod StatementParts
 pub mod Leaves
+pub mod Nested

@@ -201,7 +201,7 @@ else_refused s tokens next rest split k =
 
 -- ---- locals, changes and calls as statements
 
-semicolon_behind : {s : Stmt} {middle rest : List Token} {tree : Stmt} → EndsAs s middle rest tree → Stops whole middle
+pub semicolon_behind : {s : Stmt} {middle rest : List Token} {tree : Stmt} → EndsAs s middle rest tree → Stops whole middle
 semicolon_behind (seq (tok k) d) = stops_semicolon k
 
 some_decl : (first : Token) (t : Ty) → Completes (DeclRest first t)
@@ -432,7 +432,7 @@ no_change_begins (set (indexed {name = n} k o i c) a v) e never = never n (cc)
 no_change_begins (add_to (bare {name = n} k) a v) e never = never n (cc)
 no_change_begins (add_to (indexed {name = n} k o i c) a v) e never = never n (cc)
 
-some_change : Completes SpellsChange
+pub some_change : Completes SpellsChange
 some_change = record {
   ending = some_token (kind.Named no_name) ∷ some_token (kind.Mark mark.Assign) ∷ some_expr.ending;
   finished = stmt 0 (form.Set (place no_name None) some_expr.finished);
