@@ -6,6 +6,7 @@ mod expr;
 mod heads;
 mod leaf;
 mod simple;
+pub mod stmt;
 
 mod tokens;
 
