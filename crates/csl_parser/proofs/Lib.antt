@@ -6,3 +6,5 @@ pub mod Then
 pub mod Declared
 pub mod StatementParts
 pub mod Leaves
+pub mod Functions
+pub mod Whole

@@ -5,8 +5,10 @@ mod decl;
 mod expr;
 mod heads;
 mod leaf;
+mod levels;
+mod program;
 mod simple;
-
+mod stmt;
 mod tokens;
 
 use std::alloc::{AllocError, AllocFailed};
