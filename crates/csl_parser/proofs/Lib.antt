@@ -8,3 +8,5 @@ pub mod StatementParts
 pub mod Leaves
 pub mod Functions
 pub mod Whole
+pub mod Depth
+pub mod Only

@@ -19,7 +19,7 @@ pub fn check(alloc: Global, tokens: &[Token]) -> Result<(), ParseError>
 {
     let mut nesting = Nesting::outermost(alloc);
     let mut rest = tokens;
-    'tokens: while let [token, left @ ..] = rest {
+    'tokens: while let Some((token, left)) = rest.split_first() {
         nesting.turn(token)?;
         if nesting.level() > MOST_LEVELS {
             return Err(ParseError::TooDeep(token.at));
