@@ -327,7 +327,7 @@ mutual
 
 -- ---- functions and programs
 
-result_word-same : (a b : Gives) → result_word a ≡ result_word b → a ≡ b
+pub result_word-same : (a b : Gives) → result_word a ≡ result_word b → a ≡ b
 result_word-same gives.Nothing gives.Nothing e = refl
 result_word-same gives.Nothing gives.Int e = cc
 result_word-same gives.Nothing gives.Bool e = cc

@@ -7,3 +7,7 @@ pub mod Declared
 pub mod StatementParts
 pub mod Leaves
 pub mod Nested
+pub mod Functions
+pub mod Whole
+pub mod Depth
+pub mod Only
