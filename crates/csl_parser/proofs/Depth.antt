@@ -40,14 +40,14 @@ keeps_more nesting rest tokens token left keeps split low = record {
       let from : List Token → Type 0 = λ x. IsFlatFrom nesting x in
       keeps.flat (subst from (sym split) (low, h));
   deep = λ at d. keeps.deep at (record {
-      before = token ∷ d.before;
-      token = d.token;
-      after = d.after;
-      split = split ∙ ap (λ x. token ∷ x) d.split;
-      stands = d.stands;
-      flat = (low, d.flat);
-      deep = d.deep;
-    });
+    before = token ∷ d.before;
+    token = d.token;
+    after = d.after;
+    split = split ∙ ap (λ x. token ∷ x) d.split;
+    stands = d.stands;
+    flat = (low, d.flat);
+    deep = d.deep;
+  });
 }
 
 low_closed : (nesting : Nesting) (opened : List ℕ) → IsLow nesting → AllByRecursion (λ level. level ≤ most_levels) opened → IsLow (closed nesting opened)

@@ -156,4 +156,3 @@ print_back first {ts = ts} w d = absurd (omega (arith, form_is d, by_word first 
 
 pub print_same : (first : Token) (tokens : List Token) → first.kind ≡ kind.Word word.Print → Passes (PrintRest first) (behind first SpellsStmt) NoElse tokens tokens
 print_same first tokens w = passes_same (PrintRest first) (behind first SpellsStmt) NoElse tokens (record { there = λ ts r s d. print_there first w d; back = λ ts r s d h. print_back first w d })
-

@@ -172,7 +172,6 @@ for_back first {ts = ts} w d = absurd (omega (arith, form_is d, by_word first ts
 pub for_same : (first : Token) (tokens : List Token) → first.kind ≡ kind.Word word.For → Passes (ForRest first) (behind first SpellsStmt) NoElse tokens tokens
 for_same first tokens w = passes_same (ForRest first) (behind first SpellsStmt) NoElse tokens (record { there = λ ts r s d. for_there first w d; back = λ ts r s d h. for_back first w d })
 
-
 -- the parts of a `for`, from the last one
 pub for_body : (f : List Stmt → Stmt) → Follows (Tok (kind.Mark mark.CloseParen)) stops_anywhere (λ closing. Then SpellsBlock (λ body. Ret (f body))) NoElse
 for_body f = closing_body f NoElse
@@ -300,8 +299,8 @@ pub another_next : (first e : Token) (sofar : List Arm) (tokens rest : List Toke
 another_next first e sofar tokens rest n inner ended split k ended' split' i =
     passes_through (then_passes (tok_follows (kind.Word word.If) NoElse (λ i. completes_then some_arm (λ a. (more_arms first sofar).completes a))) rest inner n (tok_found (token_found (kind.Word word.If) rest n inner ended' split' i (λ h. cc))))
     (passes_through (narrowed (Then (Tok (kind.Word word.If)) (λ i. Then SpellsArm (λ a. ElseFrom first (sofar ++ a ∷ [])))) (behind e (ElseFrom first sofar)) NoElse rest n inner split'
-        (λ ts r s d. another_there first e sofar k d) (λ ts r b s at d h. another_at first e sofar n at d k i h))
-      (passes_behind (ElseFrom first sofar) NoElse e rest tokens split))
+    (λ ts r s d. another_there first e sofar k d) (λ ts r b s at d h. another_at first e sofar n at d k i h))
+    (passes_behind (ElseFrom first sofar) NoElse e rest tokens split))
 
 -- behind an `else` that no `if` follows
 last_there : (first e : Token) (sofar : List Arm) {ts r : List Token} {s : Stmt} → e.kind ≡ kind.Word word.Else → Then SpellsBlock (λ body. Ret (stmt first.at (form.If sofar (Some body)))) ts r s → ElseFrom first sofar (e ∷ ts) r s
@@ -320,7 +319,7 @@ last_back first sofar {ts = ts} {r = r} {s = s} (else_block {tokens = w} {body =
 pub last_next : (first e : Token) (sofar : List Arm) (tokens rest : List Token) (n : Token) (inner : List Token) → tokens ≡ e ∷ rest → e.kind ≡ kind.Word word.Else → rest ≡ n ∷ inner → (n.kind ≡ kind.Word word.If → ⊥) → Passes (Then SpellsBlock (λ body. Ret (stmt first.at (form.If sofar (Some body))))) (ElseFrom first sofar) NoElse rest tokens
 last_next first e sofar tokens rest n inner split k split' other =
     passes_through (narrowed_by (BeginsOtherThan (kind.Word word.If)) (λ token xs ys h. h) (Then SpellsBlock (λ body. Ret (stmt first.at (form.If sofar (Some body))))) (behind e (ElseFrom first sofar)) NoElse rest (begins_other (kind.Word word.If) rest n inner split' other)
-      (λ ts r s d. last_there first e sofar k d) (λ ts r s h d e'. last_back first sofar d.2 d.3 refl k h e'))
+    (λ ts r s d. last_there first e sofar k d) (λ ts r s h d e'. last_back first sofar d.2 d.3 refl k h e'))
     (passes_behind (ElseFrom first sofar) NoElse e rest tokens split)
 
 -- ---- routines
@@ -354,7 +353,7 @@ two_once (seq a (seq b (seq {part = one} n (seq c (seq d (seq {part = two} i (se
 
 some_names : Completes TwoNames
 some_names = completes_then (completes_tok round) (λ opening. completes_then (completes_tok (kind.Word word.Int)) (λ int. completes_then completes_name (λ one. completes_then (completes_tok (kind.Mark mark.Comma)) (λ comma.
-  completes_then (completes_tok (kind.Word word.Int)) (λ int. completes_then completes_name (λ two. completes_then (completes_tok (kind.Mark mark.CloseParen)) (λ closing. completes_ret (both one two))))))))
+    completes_then (completes_tok (kind.Word word.Int)) (λ int. completes_then completes_name (λ two. completes_then (completes_tok (kind.Mark mark.CloseParen)) (λ closing. completes_ret (both one two))))))))
 
 pub names_follow : (f : Name × Name → List Stmt → RoutineBlock) → Follows TwoNames stops_anywhere (λ names. Then SpellsBlock (λ body. Ret (f names body))) stops_anywhere
 names_follow f = record {

@@ -53,7 +53,7 @@ FunctionsRest shared = Then (Until (kind.Word word.Main) SpellsFunction []) (Mai
 abbrev pub ProgramTokens : List Token → List Token → Program → Type 0
 ProgramTokens =
     Then (Tok (kind.Word word.Shared)) (λ first. Then (Tok (kind.Mark mark.OpenBrace)) (λ opening.
-      Then (Until (kind.Mark mark.CloseBrace) SpellsShared []) FunctionsRest))
+    Then (Until (kind.Mark mark.CloseBrace) SpellsShared []) FunctionsRest))
 
 -- What the reader of a program answers, whatever the levels: the program that the tokens spell, or the first token that no program allows.
 abbrev pub Tells : List Token → Result Program ParseError → Type 0

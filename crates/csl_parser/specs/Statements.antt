@@ -71,8 +71,8 @@ WhileRest first = Then (Tok (kind.Mark mark.OpenParen)) (λ opening. Then (Spell
 abbrev pub ForRest : Token → List Token → List Token → Stmt → Type 0
 ForRest first =
     Then (Tok (kind.Mark mark.OpenParen)) (λ opening. Then SpellsStart (λ start. Then (Tok (kind.Mark mark.Semicolon)) (λ one.
-      Then (SpellsExpr whole) (λ test. Then (Tok (kind.Mark mark.Semicolon)) (λ two. Then SpellsChange (λ next. Then (Tok (kind.Mark mark.CloseParen)) (λ closing.
-        Then SpellsBlock (λ body. Ret (stmt first.at (form.For start test next body))))))))))
+    Then (SpellsExpr whole) (λ test. Then (Tok (kind.Mark mark.Semicolon)) (λ two. Then SpellsChange (λ next. Then (Tok (kind.Mark mark.CloseParen)) (λ closing.
+    Then SpellsBlock (λ body. Ret (stmt first.at (form.For start test next body))))))))))
 
 -- further arms and a last block, where some arms were read
 abbrev pub ElseFrom : Token → List Arm → List Token → List Token → Stmt → Type 0

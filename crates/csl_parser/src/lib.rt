@@ -17,6 +17,8 @@ mod levels;
 mod program;
 mod simple;
 mod stmt;
+#[cfg(test)]
+mod tests;
 mod tokens;
 
 use cal_base::NoMemory;

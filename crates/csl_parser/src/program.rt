@@ -14,7 +14,9 @@ ghost use Rattle.csl_parser.specs.Program.{ParamRest, FunctionRest, ProgramToken
 use crate::ParseError;
 use crate::decl::shared;
 use crate::stmt::block;
-use crate::tokens::{comma, copy_of, expect, expect_name, expect_word, front, is_end, is_mark, is_word};
+use crate::tokens::{
+    comma, copy_of, expect, expect_name, expect_word, front, is_end, is_mark, is_word,
+};
 use csl_tree::program::{Function, Gives, Param, Program, Shared, Ty};
 use csl_tree::token::{Keyword, Mark, Token, TokenKind};
 use sqlite_items::Items;

@@ -204,10 +204,7 @@ pub fn bare<'a>(
     ensures answer { Answers (EndsAs (stmt first.now.at form)) NoElse tokens.now (λ x. (x.0, x.1.now)) result }
     ensures shorter { IfOk result (λ x. length x.1.now < length tokens.now) }
 {
-    let s = Stmt {
-        at: first.at,
-        form,
-    };
+    let s = Stmt { at: first.at, form };
     ended(s, tokens)
 }
 

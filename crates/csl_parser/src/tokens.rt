@@ -12,8 +12,8 @@ ghost use Rattle.csl_parser.specs.Reading.{Answers, BeginsAs, IsToken, NameTok, 
 use crate::ParseError;
 use cal_base::NoMemory;
 use csl_tree::name::{Name, Text};
-use csl_tree::token::{Keyword, Mark, Token, TokenKind};
 use csl_tree::program::{ArraySize, BinaryOp, UnaryOp};
+use csl_tree::token::{Keyword, Mark, Token, TokenKind};
 use std::alloc::Global;
 
 /// The first token, and those behind it.
@@ -219,13 +219,7 @@ pub fn natural(token: &Token) -> Option<i64>
     ensures { result ≡ natural_of token.now.kind }
 {
     match number(token) {
-        Some(n) => {
-            if n < 0 {
-                None
-            } else {
-                Some(n)
-            }
-        }
+        Some(n) => { if n < 0 { None } else { Some(n) } }
         None => None,
     }
 }

@@ -21,7 +21,7 @@ pub returns-in_err-one : goal.returns-in_err-one
 returns-in_err-one c =
     let p = err_from_is_err_and c.from_residual.result c.from_residual.ensures.1 in
     rw (p.1, p.2) (passed_error _ _ stops_anywhere _ c.args.tokens.now _ c.more.invariant.passes
-      (d.functions_err c.more.found c.more.rest.now _ (begins_other _ c.more.rest.now _ _ c.front.ensures (λ h. cc (c.if-is_word.ensures.1 h))) c.in_err-one.ensures.answer))
+    (d.functions_err c.more.found c.more.rest.now _ (begins_other _ c.more.rest.now _ _ c.front.ensures (λ h. cc (c.if-is_word.ensures.1 h))) c.in_err-one.ensures.answer))
 
 pub more-preserved : goal.more-preserved
 more-preserved c = record {

@@ -27,7 +27,7 @@ pub returns-in_err-value-clause-answer : goal.returns-in_err-value-clause-answer
 returns-in_err-value-clause-answer c =
     let p = err_from_is_err_and c.from_residual.result c.from_residual.ensures.1 in
     rw (p.1, p.2) (passed_error _ _ (Stops whole) _ c.args.tokens.now _ (d.value_next c.args.tokens.now _ _ c.front.ensures c.in_default.not-Text)
-      (then_first (d.expr_last (λ e. item.Value e)) c.args.tokens.now _ c.in_err-value.ensures.answer))
+    (then_first (d.expr_last (λ e. item.Value e)) c.args.tokens.now _ c.in_err-value.ensures.answer))
 
 pub returns-clause-answer : goal.returns-clause-answer
 returns-clause-answer c =

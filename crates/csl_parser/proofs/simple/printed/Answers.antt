@@ -27,7 +27,7 @@ pub returns-in_err-items-clause-answer : goal.returns-in_err-items-clause-answer
 returns-in_err-items-clause-answer c =
     let p = err_from_is_err_and c.from_residual-in_err-items.result c.from_residual-in_err-items.ensures.1 in
     rw (p.1, p.2) (then_second (d.opening_items (λ items. stmt c.args.first.now.at (form.Print items))) c.args.tokens.now _ _ _ (tok_found c.in_ok-rest.ensures.answer)
-      (then_first (d.items_follow (λ items. stmt c.args.first.now.at (form.Print items))) _ _ c.in_err-items.ensures.answer))
+    (then_first (d.items_follow (λ items. stmt c.args.first.now.at (form.Print items))) _ _ c.in_err-items.ensures.answer))
 
 pub returns-clause-answer : goal.returns-clause-answer
 returns-clause-answer c =

@@ -30,4 +30,4 @@ returns-in-Some-clause-answer c = d.goes_on_refused _ c.args.tokens.now _ _ c.fr
 pub returns-in_ok-text-in-None-clause-answer : goal.returns-in_ok-text-in-None-clause-answer
 returns-in_ok-text-in-None-clause-answer c =
     rw c.in_ok-text-in-None.ensures (ret_found _ (Stops whole) c.args.tokens.now
-      (d.stops_next c.args.tokens.now _ _ c.front.ensures (λ h. cc (c.if-is_mark.ensures.1 h)) (λ h. cc (c.if-is_mark-2.ensures.1 h)) (cc (c.operator.ensures, c.in-None.is))) c.requires)
+    (d.stops_next c.args.tokens.now _ _ c.front.ensures (λ h. cc (c.if-is_mark.ensures.1 h)) (λ h. cc (c.if-is_mark-2.ensures.1 h)) (cc (c.operator.ensures, c.in-None.is))) c.requires)

@@ -290,4 +290,3 @@ routine-returns-in_err-body-clause-answer t c =
 pub routine-returns-clause-answer : goal.routine-returns-clause-answer
 routine-returns-clause-answer t c =
     rw (c.in_ok-copy_of.ensures, c.in_ok-copy_of-2.ensures) ((d.routine_same c.args.tokens.now).found _ _ (then_found d.routine_word _ _ _ _ _ (tok_found c.in_ok-first.ensures.answer) (then_found (d.routine_opening c.in_ok-first.first.now) _ _ _ _ _ (tok_found c.in_ok-rest.ensures.answer) (then_found (d.width_follows c.in_ok-first.first.now) _ _ _ _ _ c.in_ok-width.ensures.answer (then_found (d.width_closing c.in_ok-first.first.now c.in_ok-width.width) _ _ _ _ _ (tok_found c.in_ok-rest-2.ensures.answer) (then_found (d.names_follow (d.routine_as c.in_ok-first.first.now c.in_ok-width.width)) _ _ _ _ _ c.in_ok-names.ensures.answer (then_found (d.body_follows (λ body. d.routine_as c.in_ok-first.first.now c.in_ok-width.width (c.in_ok-names.names.0.now, c.in_ok-names.names.1.now) body) stops_anywhere) _ _ _ _ _ c.in_ok-body.ensures.answer (ret_found _ stops_anywhere _ tt c.in_ok-body.ensures.answer.ended))))))))
-
