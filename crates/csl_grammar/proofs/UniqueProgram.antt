@@ -31,7 +31,7 @@ use Rattle.csl_grammar.proofs.UniqueParts.{unique_call, unique_decl, unique_chan
 -- ---- the form of a statement, told by its first tokens
 
 -- behind a name: a call or a change
-abbrev form_behind_name : List Token → ℕ
+abbrev pub form_behind_name : List Token → ℕ
 form_behind_name [] = 2
 form_behind_name (token ∷ tokens) = at token.kind
   where
@@ -47,7 +47,7 @@ form_behind_name (token ∷ tokens) = at token.kind
     at (kind.Text t) = 2
     at kind.End = 2
 
-abbrev form_of_word : Keyword → ℕ
+abbrev pub form_of_word : Keyword → ℕ
 form_of_word word.Int = 1
 form_of_word word.Bool = 1
 form_of_word word.If = 5
@@ -61,11 +61,11 @@ form_of_word word.Print = 12
 form_of_word word.Parbegin = 13
 form_of_word _ = 0
 
-abbrev form_of_mark : Mark → ℕ
+abbrev pub form_of_mark : Mark → ℕ
 form_of_mark mark.OpenBrace = 4
 form_of_mark _ = 0
 
-abbrev form_of_kind : TokenKind → List Token → ℕ
+abbrev pub form_of_kind : TokenKind → List Token → ℕ
 form_of_kind (kind.Word w) tokens = form_of_word w
 form_of_kind (kind.Named n) tokens = form_behind_name tokens
 form_of_kind (kind.Mark m) tokens = form_of_mark m
@@ -95,16 +95,16 @@ form_by (asserts k o d c s) = 11
 form_by (prints k o d c s) = 12
 form_by (parallel k r rs l s) = 13
 
-by_word : (token : Token) {w : Keyword} (tokens : List Token) → IsWord token w → form_at (token ∷ tokens) ≡ form_of_word w
+pub by_word : (token : Token) {w : Keyword} (tokens : List Token) → IsWord token w → form_at (token ∷ tokens) ≡ form_of_word w
 by_word token tokens k = ap (λ x. form_of_kind x tokens) k
 
-by_mark : (token : Token) {m : Mark} (tokens : List Token) → IsMark token m → form_at (token ∷ tokens) ≡ form_of_mark m
+pub by_mark : (token : Token) {m : Mark} (tokens : List Token) → IsMark token m → form_at (token ∷ tokens) ≡ form_of_mark m
 by_mark token tokens k = ap (λ x. form_of_kind x tokens) k
 
-by_name : (token : Token) {n : Name} (tokens : List Token) → IsName token n → form_at (token ∷ tokens) ≡ form_behind_name tokens
+pub by_name : (token : Token) {n : Name} (tokens : List Token) → IsName token n → form_at (token ∷ tokens) ≡ form_behind_name tokens
 by_name token tokens k = ap (λ x. form_of_kind x tokens) k
 
-type_form : (t : Ty) → form_of_word (type_word t) ≡ 1
+pub type_form : (t : Ty) → form_of_word (type_word t) ≡ 1
 type_form ty.Int = refl
 type_form ty.Bool = refl
 
@@ -143,6 +143,26 @@ behind_mark token {m = m} tokens k other = at token.kind k
 
     at : (x : TokenKind) → x ≡ kind.Mark m → form_behind_name (record { at = 0; kind = x } ∷ []) ≡ 2
     at x e = ap (λ y. form_behind_name (record { at = 0; kind = y } ∷ [])) e ∙ by m other
+
+-- in front of no parenthesis a name begins a change
+pub form_of_change : (ts : List Token) → BeginsOtherThan (kind.Mark mark.OpenParen) ts → form_behind_name ts ≡ 2
+form_of_change [] other = refl
+form_of_change (token ∷ ts) other = at token.kind other
+  where
+    by_mark_of : (m : Mark) → (m ≡ mark.OpenParen → ⊥) → form_behind_name (record { at = 0; kind = kind.Mark m } ∷ []) ≡ 2
+    by_mark_of m other = behind_mark (record { at = 0; kind = kind.Mark m }) [] refl other
+
+    at : (x : TokenKind) → (x ≡ kind.Mark mark.OpenParen → ⊥) → form_behind_name (record { at = 0; kind = x } ∷ []) ≡ 2
+    at (kind.Mark m) other = by_mark_of m (λ e. other (ap (λ y. kind.Mark y) e))
+    at (kind.Word w) other = refl
+    at (kind.Named n) other = refl
+    at (kind.Number n) other = refl
+    at (kind.Text t) other = refl
+    at kind.End other = refl
+
+-- in front of a parenthesis it begins a call
+pub form_of_call : (next : Token) (ts : List Token) → IsMark next mark.OpenParen → form_behind_name (next ∷ ts) ≡ 3
+form_of_call next ts o = ap (λ x. form_behind_name (record { at = 0; kind = x } ∷ [])) o
 
 place_form : {ts rest : List Token} {p : _} {m : Mark} {equals : Token} {middle : List Token} → SpellsPlace ts rest p → rest ≡ equals ∷ middle → IsMark equals m → (m ≡ mark.OpenParen → ⊥) → form_at ts ≡ 2
 place_form {equals = equals} {middle = middle} (bare {token = f} {rest = rest} n) e k other = by_name f rest n ∙ ap form_behind_name e ∙ behind_mark equals middle k other
@@ -207,11 +227,11 @@ begins_other k [] no_form h = tt
 begins_other k (token ∷ tokens) no_form h = λ same. h (ap (λ x. form_of_kind x tokens) same ∙ no_form tokens)
 
 -- no statement begins with a closing brace
-no_stmt_closes : {ts rest behind : List Token} {s : Stmt} {closing : Token} → SpellsStmt ts rest s → ts ≡ closing ∷ behind → IsMark closing mark.CloseBrace → ⊥
+pub no_stmt_closes : {ts rest behind : List Token} {s : Stmt} {closing : Token} → SpellsStmt ts rest s → ts ≡ closing ∷ behind → IsMark closing mark.CloseBrace → ⊥
 no_stmt_closes {behind = behind} {closing = closing} d e k = has_form d (ap form_at e ∙ by_mark closing behind k)
 
 -- in front of the end of a block stands no `else`
-stmts_no_else : {ts rest behind : List Token} {ss : List Stmt} {closing : Token} → SpellsStmts ts rest ss → rest ≡ closing ∷ behind → IsMark closing mark.CloseBrace → NoElse ts
+pub stmts_no_else : {ts rest behind : List Token} {ss : List Stmt} {closing : Token} → SpellsStmts ts rest ss → rest ≡ closing ∷ behind → IsMark closing mark.CloseBrace → NoElse ts
 stmts_no_else {behind = behind} {closing = closing} none e k = subst NoElse (sym e) (at_closing closing behind k)
   where
     at_closing : (closing : Token) (behind : List Token) → IsMark closing mark.CloseBrace → NoElse (closing ∷ behind)
@@ -307,7 +327,7 @@ mutual
 
 -- ---- functions and programs
 
-result_word-same : (a b : Gives) → result_word a ≡ result_word b → a ≡ b
+pub result_word-same : (a b : Gives) → result_word a ≡ result_word b → a ≡ b
 result_word-same gives.Nothing gives.Nothing e = refl
 result_word-same gives.Nothing gives.Int e = cc
 result_word-same gives.Nothing gives.Bool e = cc

@@ -227,7 +227,7 @@ pub negative_refused : (sign : Token) (tokens : List Token) (first : Token) (res
 negative_refused sign tokens first rest s split none =
     let at : List Token → Type 0 = λ x. Refused (behind sign SpellsValue) stops_anywhere x first.at in
     subst at (sym split) (refused_here (behind sign SpellsValue) stops_anywhere first rest (λ others r v d h. no_negative_here d refl s none)
-      (some_token (kind.Number (pos 0)) ∷ []) (record { at = sign.at; number = neg_ℤ (pos 0) }) (λ others. minus s refl))
+    (some_token (kind.Number (pos 0)) ∷ []) (record { at = sign.at; number = neg_ℤ (pos 0) }) (λ others. minus s refl))
 
 once : (tokens middle middle' : List Token) (x x' : Valued) → SpellsValue tokens middle x → SpellsValue tokens middle' x' → stops_anywhere middle → stops_anywhere middle' → (middle ≡ middle') × (x ≡ x')
 once tokens middle middle' x x' d d' s s' = unique_value d d' refl

@@ -5,3 +5,9 @@ pub mod Steps
 pub mod Then
 pub mod Declared
 pub mod StatementParts
+pub mod Leaves
+pub mod Nested
+pub mod Functions
+pub mod Whole
+pub mod Depth
+pub mod Only

@@ -246,7 +246,7 @@ called_cut {v' = v'} {first = first} {bracket = bracket} {tokens = tokens} {rest
 tail_same : {x y : Token} {xs ys : List Token} → x ∷ xs ≡ y ∷ ys → xs ≡ ys
 tail_same e = cc
 
-unique_closed : (tokens middle middle' : List Token) (args args' : List Expr) → SpellsClosed tokens middle args → SpellsClosed tokens middle' args' → stops_anywhere middle → stops_anywhere middle' → (middle ≡ middle') × (args ≡ args')
+pub unique_closed : (tokens middle middle' : List Token) (args args' : List Expr) → SpellsClosed tokens middle args → SpellsClosed tokens middle' args' → stops_anywhere middle → stops_anywhere middle' → (middle ≡ middle') × (args ≡ args')
 unique_closed tokens middle middle' args args' d d' s s' =
     let both : (d.0 ∷ middle ≡ d'.0 ∷ middle') × (args ≡ args') = unique_arguments d.1 d'.1 refl refl refl d.2 d'.2 in
     (tail_same both.0, both.1)

@@ -32,7 +32,7 @@ TallyRest = Then (Tok (kind.Word word.Int)) (λ int. Then NameTok (λ name. Then
 abbrev pub ListedRest : Name → ArraySize → List Token → List Token → Shared → Type 0
 ListedRest name size =
     Then (Tok (kind.Mark mark.OpenBrace)) (λ opening. Then (ListUntil (kind.Mark mark.CloseBrace) SpellsValue) (λ values.
-      Then (Tok (kind.Mark mark.Semicolon)) (λ end. Ret (array_of name size true values))))
+    Then (Tok (kind.Mark mark.Semicolon)) (λ end. Ret (array_of name size true values))))
 
 -- behind "[" NUMBER "]": ";", or "=" and so on
 abbrev pub AfterSize : Name → ArraySize → List Token → List Token → Shared → Type 0

@@ -125,6 +125,10 @@ SpellsClosed tokens rest args = (closing : Token) × SpellsArguments tokens (clo
 abbrev pub SpellsMoreClosed : List Expr → List Token → List Token → List Expr → Type 0
 SpellsMoreClosed sofar tokens rest args = (closing : Token) × (es : List Expr) × SpellsMore tokens (closing ∷ rest) es × (closing.kind ≡ kind.Mark mark.CloseParen) × (args ≡ sofar ++ es)
 
+-- the tokens begin with a token of that kind
+abbrev pub BeginsAs : TokenKind → List Token → Type 0
+BeginsAs k tokens = (first : Token) × (rest : List Token) × (tokens ≡ first ∷ rest) × (first.kind ≡ k)
+
 -- one token of that kind
 pub data Tok (k : TokenKind) : List Token → List Token → Token → Type 0 where
   tok : {token : Token} {rest : List Token} → token.kind ≡ k → Tok k (token ∷ rest) rest token

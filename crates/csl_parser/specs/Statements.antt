@@ -10,6 +10,7 @@ use Rattle.csl_tree.specs.declared.program.Expr.{Expr}
 use Rattle.csl_tree.specs.declared.program.Place.{Place}
 use Rattle.csl_tree.specs.declared.program.Stmt.{Stmt}
 use Rattle.csl_tree.specs.declared.program.Arm.{Arm}
+use Rattle.csl_tree.specs.declared.program.RoutineBlock.{RoutineBlock}
 use Rattle.csl_tree.specs.declared.program.Form.TheVariants as form
 use Rattle.csl_grammar.specs.Expressions.{SpellsExpr, whole, place, call}
 use Rattle.csl_grammar.specs.Stops.{BeginsOtherThan}
@@ -46,14 +47,6 @@ ChangeRest first name = Either (Changing first (place name None)) (Then (Tok (ki
 abbrev pub CallRest : Token → Name → List Token → List Token → Stmt → Type 0
 CallRest first name = Then SpellsClosed (λ args. EndsAs (stmt first.at (form.CallOf (call name args))))
 
--- behind the type of a local: the declaration and ";"
-abbrev pub LocalRest : Token → Ty → List Token → List Token → Stmt → Type 0
-LocalRest first t = Then (DeclRest first t) EndsAs
-
--- behind a name at the front of a statement: a change and ";", or a call and ";"
-abbrev pub NamedRest : Token → Name → List Token → List Token → Stmt → Type 0
-NamedRest first name = Either (Then (ChangeRest first name) EndsAs) (Then (Tok (kind.Mark mark.OpenParen)) (λ opening. CallRest first name))
-
 -- the statements of a block, behind its brace
 abbrev pub BlockRest : List Token → List Token → List Stmt → Type 0
 BlockRest = Until (kind.Mark mark.CloseBrace) SpellsStmt []
@@ -78,8 +71,8 @@ WhileRest first = Then (Tok (kind.Mark mark.OpenParen)) (λ opening. Then (Spell
 abbrev pub ForRest : Token → List Token → List Token → Stmt → Type 0
 ForRest first =
     Then (Tok (kind.Mark mark.OpenParen)) (λ opening. Then SpellsStart (λ start. Then (Tok (kind.Mark mark.Semicolon)) (λ one.
-      Then (SpellsExpr whole) (λ test. Then (Tok (kind.Mark mark.Semicolon)) (λ two. Then SpellsChange (λ next. Then (Tok (kind.Mark mark.CloseParen)) (λ closing.
-        Then SpellsBlock (λ body. Ret (stmt first.at (form.For start test next body))))))))))
+    Then (SpellsExpr whole) (λ test. Then (Tok (kind.Mark mark.Semicolon)) (λ two. Then SpellsChange (λ next. Then (Tok (kind.Mark mark.CloseParen)) (λ closing.
+    Then SpellsBlock (λ body. Ret (stmt first.at (form.For start test next body))))))))))
 
 -- further arms and a last block, where some arms were read
 abbrev pub ElseFrom : Token → List Arm → List Token → List Token → Stmt → Type 0
@@ -89,6 +82,22 @@ ElseFrom first sofar tokens rest s = (arms : List Arm) × (last : Option (List S
 abbrev pub IfRest : Token → List Token → List Token → Stmt → Type 0
 IfRest first = Then SpellsArm (λ arm. ElseFrom first (arm ∷ []))
 
+-- two names, in order
+abbrev pub both : Name → Name → Name × Name
+both one two = (one, two)
+
+-- "int" NAME ")", where the first name was read
+abbrev pub SecondName : Name → List Token → List Token → Name × Name → Type 0
+SecondName one = Then (Tok (kind.Word word.Int)) (λ int. Then NameTok (λ two. Then (Tok (kind.Mark mark.CloseParen)) (λ closing. Ret (both one two))))
+
+-- "(" "int" NAME "," "int" NAME ")"
+abbrev pub TwoNames : List Token → List Token → Name × Name → Type 0
+TwoNames = Then (Tok (kind.Mark mark.OpenParen)) (λ opening. Then (Tok (kind.Word word.Int)) (λ int. Then NameTok (λ one. Then (Tok (kind.Mark mark.Comma)) (λ comma. SecondName one))))
+
+-- behind `parbegin`: routine {routine} "parend"
+abbrev pub RoutinesRest : List Token → List Token → List RoutineBlock → Type 0
+RoutinesRest = Then SpellsRoutine (λ one. Until (kind.Word word.Parend) SpellsRoutine (one ∷ []))
+
 -- behind `parbegin`: routine {routine} "parend" ";"
 abbrev pub ParRest : Token → List Token → List Token → Stmt → Type 0
-ParRest first = Then SpellsRoutine (λ one. Then (Until (kind.Word word.Parend) SpellsRoutine (one ∷ [])) (λ routines. EndsAs (stmt first.at (form.Par routines))))
+ParRest first = Then RoutinesRest (λ routines. EndsAs (stmt first.at (form.Par routines)))

@@ -10,8 +10,8 @@ ghost use Rattle.csl_parser.specs.Chains.{TallyRest, IntRest, AfterName, ArrayRe
 
 use crate::ParseError;
 use crate::tokens::{
-    comma, copy_of, expect, expect_name, expect_number, expect_word, front, is_mark, is_word, natural,
-    number,
+    comma, copy_of, expect, expect_name, expect_number, expect_word, front, is_mark, is_word,
+    natural, number,
 };
 use cal_base::WordKind;
 use csl_tree::name::Name;
@@ -173,10 +173,7 @@ fn value(tokens: &[Token]) -> Result<(Valued, &[Token]), ParseError>
 }
 
 // A negative initial value, behind its sign.
-fn negative<'a>(
-    sign: &'a Token,
-    tokens: &'a [Token],
-) -> Result<(Valued, &'a [Token]), ParseError>
+fn negative<'a>(sign: &'a Token, tokens: &'a [Token]) -> Result<(Valued, &'a [Token]), ParseError>
     requires sign { sign.now.kind ≡ kind.Mark mark.Minus }
     requires ended { IsEnded tokens.now }
     ensures answer { Answers (behind sign.now SpellsValue) stops_anywhere tokens.now (λ x. (x.0, x.1.now)) result }

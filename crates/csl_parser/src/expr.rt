@@ -12,8 +12,8 @@ use crate::tokens::{
     comma, copy_of, expect, front, is_mark, looseness, number, operator, prefix, truth,
 };
 use csl_tree::name::Name;
-use csl_tree::token::{Mark, Token, TokenKind};
 use csl_tree::program::{Call, Expr, Node, Place, UnaryOp};
+use csl_tree::token::{Mark, Token, TokenKind};
 use sqlite_items::{Boxed, Items};
 use std::alloc::Global;
 

@@ -1,13 +1,30 @@
 //! The grammar, read by recursive descent.
 #![tactic(auto)]
 
+ghost use Rattle.std.specs.Prelude.{◌≡◌, ℕ, IfOk, MatchResult, Err};
+ghost use Rattle.csl_tree.specs.declared.program.Program.{Program};
+ghost use Rattle.csl_lexer.specs.Tokens.{SomeText};
+ghost use Rattle.csl_grammar.specs.Levels.{IsFlat, IsTooDeep};
+ghost use Rattle.csl_grammar.specs.Programs.{SpellsProgram};
+ghost use Rattle.csl_grammar.specs.Spelling.{IsUnexpected};
+ghost use Rattle.csl_parser.specs.declared.ParseError.TheVariants as error;
+
 mod decl;
 mod expr;
+mod heads;
+mod leaf;
+mod levels;
+mod program;
 mod simple;
+mod stmt;
+#[cfg(test)]
+mod tests;
 mod tokens;
 
-use std::alloc::{AllocError, AllocFailed};
 use cal_base::NoMemory;
+use csl_tree::program::Program;
+use csl_tree::token::Token;
+use std::alloc::{AllocError, AllocFailed, Global};
 
 /// Why tokens are no program's.
 #[derive(Clone, Copy, Debug, PartialEq, Eq)]
@@ -39,4 +56,16 @@ impl From<AllocError> for ParseError {
     fn from(_: AllocError) -> ParseError {
         ParseError::NoMemory
     }
+}
+
+/// The one program that the tokens of a text spell. Levels are tested first, over all the tokens, and then the grammar.
+pub fn parse(alloc: Global, tokens: &[Token]) -> Result<Program, ParseError>
+    requires { SomeText tokens.now }
+    ensures spelled { IfOk result (λ p. IsFlat tokens.now × SpellsProgram tokens.now p) }
+    ensures only { (p : Program) → IsFlat tokens.now → SpellsProgram tokens.now p → MatchResult result (λ found. found ≡ p) (λ e. e ≡ error.NoMemory) }
+    ensures too_deep { (at : ℕ) → result ≡ Err (error.TooDeep at) → IsTooDeep tokens.now at }
+    ensures unexpected { (at : ℕ) → result ≡ Err (error.Unexpected at) → IsFlat tokens.now × IsUnexpected tokens.now at }
+{
+    levels::check(alloc, tokens)?;
+    program::program(alloc, tokens)
 }

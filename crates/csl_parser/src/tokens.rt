@@ -2,17 +2,18 @@
 
 ghost use Rattle.std.specs.Prelude.{◌≡◌, ◌<◌, ◌∷◌, ◌↔◌, IsTrue, IfOk, MatchOption, length};
 ghost use Rattle.csl_tree.specs.declared.token.TokenKind.TheVariants as kind;
+ghost use Rattle.csl_tree.specs.declared.token.Keyword.TheVariants as word;
 ghost use Rattle.csl_tree.specs.declared.token.Mark.TheVariants as mark;
 ghost use Rattle.csl_tree.specs.declared.token.Token.{Token};
 ghost use Rattle.csl_grammar.specs.Expressions.{level_of};
 ghost use Rattle.csl_grammar.specs.Stops.{IsEnded, operator_of, BeginsOtherThan};
-ghost use Rattle.csl_parser.specs.Reading.{Answers, IsToken, NameTok, SizeTok, stops_anywhere, at_mark, prefix_of, number_of, natural_of, truth_of};
+ghost use Rattle.csl_parser.specs.Reading.{Answers, BeginsAs, IsToken, NameTok, SizeTok, stops_anywhere, at_mark, prefix_of, number_of, natural_of, truth_of};
 
 use crate::ParseError;
 use cal_base::NoMemory;
 use csl_tree::name::{Name, Text};
-use csl_tree::token::{Keyword, Mark, Token, TokenKind};
 use csl_tree::program::{ArraySize, BinaryOp, UnaryOp};
+use csl_tree::token::{Keyword, Mark, Token, TokenKind};
 use std::alloc::Global;
 
 /// The first token, and those behind it.
@@ -218,13 +219,46 @@ pub fn natural(token: &Token) -> Option<i64>
     ensures { result ≡ natural_of token.now.kind }
 {
     match number(token) {
-        Some(n) => {
-            if n < 0 {
-                None
-            } else {
-                Some(n)
-            }
-        }
+        Some(n) => { if n < 0 { None } else { Some(n) } }
         None => None,
+    }
+}
+
+/// The tokens, unless they begin with that mark.
+pub fn unless_mark(mark: Mark, tokens: &[Token]) -> Option<&[Token]>
+    requires { IsEnded tokens.now }
+    ensures { MatchOption result (BeginsAs (kind.Mark mark) tokens.now) (λ here. (here.now ≡ tokens.now) × BeginsOtherThan (kind.Mark mark) tokens.now) }
+{
+    let (first, _) = front(tokens);
+    if is_mark(first, mark) {
+        None
+    } else {
+        Some(tokens)
+    }
+}
+
+/// The tokens, unless they begin with that keyword.
+pub fn unless_word(word: Keyword, tokens: &[Token]) -> Option<&[Token]>
+    requires { IsEnded tokens.now }
+    ensures { MatchOption result (BeginsAs (kind.Word word) tokens.now) (λ here. (here.now ≡ tokens.now) × BeginsOtherThan (kind.Word word) tokens.now) }
+{
+    let (first, _) = front(tokens);
+    if is_word(first, word) {
+        None
+    } else {
+        Some(tokens)
+    }
+}
+
+/// The tokens behind an `else`, if one is at the front.
+pub fn behind_else(tokens: &[Token]) -> Option<&[Token]>
+    requires { IsEnded tokens.now }
+    ensures { MatchOption result (BeginsOtherThan (kind.Word word.Else) tokens.now) (λ rest. (first : Token) × IsToken (kind.Word word.Else) tokens.now rest.now first) }
+{
+    let (first, rest) = front(tokens);
+    if is_word(first, Keyword::Else) {
+        Some(rest)
+    } else {
+        None
     }
 }

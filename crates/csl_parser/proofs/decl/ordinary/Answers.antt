@@ -33,11 +33,11 @@ pub returns-in_err-rest-clause-answer : goal.returns-in_err-rest-clause-answer
 returns-in_err-rest-clause-answer c =
     let p = err_from_is_err_and c.from_residual-in_err-rest.result c.from_residual-in_err-rest.ensures.1 in
     rw (p.1, p.2) (passed_error _ IntRest stops_anywhere _ c.args.tokens.now _
-      (passes_through (d.scalar_next c.in_ok-name.name.now _ _ _ c.front.ensures (λ h. cc (c.if-is_mark.ensures.1 h))) (then_passes d.int_name c.args.tokens.now _ _ c.in_ok-name.ensures.answer))
-      (then_first (d.end_follows (scalar_of c.in_ok-name.name.now)) _ _ (tok_err _ _ _ c.in_err-rest.ensures.answer)))
+    (passes_through (d.scalar_next c.in_ok-name.name.now _ _ _ c.front.ensures (λ h. cc (c.if-is_mark.ensures.1 h))) (then_passes d.int_name c.args.tokens.now _ _ c.in_ok-name.ensures.answer))
+    (then_first (d.end_follows (scalar_of c.in_ok-name.name.now)) _ _ (tok_err _ _ _ c.in_err-rest.ensures.answer)))
 
 pub returns-clause-answer : goal.returns-clause-answer
 returns-clause-answer c =
     rw (c.in_ok-copy_of.ensures, c.new.ensures) (
-      (passes_through (d.scalar_next c.in_ok-name.name.now _ _ _ c.front.ensures (λ h. cc (c.if-is_mark.ensures.1 h))) (then_passes d.int_name c.args.tokens.now _ _ c.in_ok-name.ensures.answer)).found _ _
-      (then_found (d.end_follows (scalar_of c.in_ok-name.name.now)) _ _ _ _ _ (tok_found c.in_ok-rest.ensures.answer) (ret_found _ stops_anywhere _ tt c.in_ok-rest.ensures.answer.ended)))
+    (passes_through (d.scalar_next c.in_ok-name.name.now _ _ _ c.front.ensures (λ h. cc (c.if-is_mark.ensures.1 h))) (then_passes d.int_name c.args.tokens.now _ _ c.in_ok-name.ensures.answer)).found _ _
+    (then_found (d.end_follows (scalar_of c.in_ok-name.name.now)) _ _ _ _ _ (tok_found c.in_ok-rest.ensures.answer) (ret_found _ stops_anywhere _ tt c.in_ok-rest.ensures.answer.ended)))

@@ -23,10 +23,10 @@ pub returns-in_err-rest-2-clause-answer : goal.returns-in_err-rest-2-clause-answ
 returns-in_err-rest-2-clause-answer c =
     let p = err_from_is_err_and c.from_residual-in_err-rest-2.result c.from_residual-in_err-rest-2.ensures.1 in
     rw (p.1, p.2) (then_second tally_int c.args.tokens.now _ _ _ (tok_found c.in_ok-rest.ensures.answer)
-      (then_second tally_name _ _ _ _ c.in_ok-name.ensures.answer (then_first (end_follows (tally_of c.in_ok-name.name.now)) _ _ (tok_err _ _ _ c.in_err-rest-2.ensures.answer))))
+    (then_second tally_name _ _ _ _ c.in_ok-name.ensures.answer (then_first (end_follows (tally_of c.in_ok-name.name.now)) _ _ (tok_err _ _ _ c.in_err-rest-2.ensures.answer))))
 
 pub returns-clause-answer : goal.returns-clause-answer
 returns-clause-answer c =
     rw (c.in_ok-copy_of.ensures, c.new.ensures) (then_found tally_int c.args.tokens.now _ _ _ _ (tok_found c.in_ok-rest.ensures.answer)
-      (then_found tally_name _ _ _ _ _ c.in_ok-name.ensures.answer
-        (then_found (end_follows (tally_of c.in_ok-name.name.now)) _ _ _ _ _ (tok_found c.in_ok-rest-2.ensures.answer) (ret_found _ stops_anywhere _ tt c.in_ok-rest-2.ensures.answer.ended))))
+    (then_found tally_name _ _ _ _ _ c.in_ok-name.ensures.answer
+    (then_found (end_follows (tally_of c.in_ok-name.name.now)) _ _ _ _ _ (tok_found c.in_ok-rest-2.ensures.answer) (ret_found _ stops_anywhere _ tt c.in_ok-rest-2.ensures.answer.ended))))
