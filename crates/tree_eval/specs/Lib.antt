@@ -1,0 +1,5 @@
+pub mod Follows
+pub mod Lists
+pub mod Sums
+pub mod Fits
+pub mod Changes
