@@ -3,3 +3,7 @@ pub mod Sizes
 pub mod Words
 pub mod Calls
 pub mod Loops
+pub mod Routines
+pub mod Searching
+pub mod Merging
+pub mod Installing

@@ -45,3 +45,9 @@ opening_of (store.Routine opening written) = Some opening
 -- what stays while no step is opened: a routine's opening memory, how many words there are, and how many steps there were
 abbrev pub stays : World → Option Memory × ℕ × ℕ
 stays w = (opening_of w.store, length (memory_in w.store), w.steps)
+
+-- the call appended to a list what the definition gives
+abbrev pub AppendsAll : {A : Type 0} → Run (List A) → List A → World → Result (Unit {0}) Halt → List A → World → Type 0
+AppendsAll run before w (Ok u) given after = (run >>= (λ more. pure (before ++ more))) w ≡ Gives given after
+AppendsAll run before w (Err (Cause c)) given after = run w ≡ Stops c after
+AppendsAll run before w (Err NoMemory) given after = Unit {0}

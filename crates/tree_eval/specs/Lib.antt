@@ -3,3 +3,5 @@ pub mod Lists
 pub mod Sums
 pub mod Fits
 pub mod Changes
+pub mod Finished
+pub mod Merged

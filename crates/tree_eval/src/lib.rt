@@ -3,6 +3,8 @@
 
 mod eval;
 mod halt;
+mod merge;
 mod names;
 mod operators;
+mod routine;
 mod store;

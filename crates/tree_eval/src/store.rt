@@ -27,7 +27,7 @@ pub fn take_unit(world: &mut World) -> Result<(), Halt>
 }
 
 /// The value of a word, and 0 where there is none.
-fn value_at(memory: &[Word], address: u32) -> i64
+pub fn value_at(memory: &[Word], address: u32) -> i64
     ensures { result ≡ memory_of.value_at memory.now address }
 {
     match memory.get(address as usize) {
@@ -37,7 +37,7 @@ fn value_at(memory: &[Word], address: u32) -> i64
 }
 
 /// The kind of a word; a word that is not there is ordinary.
-fn kind_at(memory: &[Word], address: u32) -> WordKind
+pub fn kind_at(memory: &[Word], address: u32) -> WordKind
     ensures { result ≡ memory_of.kind_at memory.now address }
 {
     match memory.get(address as usize) {
@@ -47,7 +47,7 @@ fn kind_at(memory: &[Word], address: u32) -> WordKind
 }
 
 /// Gives a word another value.
-fn set_value(memory: &mut Items<Word>, address: u32, value: i64)
+pub fn set_value(memory: &mut Items<Word>, address: u32, value: i64)
     ensures { memory.new ≡ memory_of.with_value memory.old address value }
 {
     let kind = match memory.get(address as usize) {
