@@ -7,3 +7,5 @@ pub mod Routines
 pub mod Searching
 pub mod Merging
 pub mod Installing
+pub mod Lines
+pub mod Telling

@@ -5,3 +5,9 @@ pub mod Fits
 pub mod Changes
 pub mod Finished
 pub mod Merged
+pub mod Told
+pub mod Worlds
+pub mod Pieces
+pub mod Widths
+pub mod Ready
+pub mod Printed

@@ -317,7 +317,7 @@ pub fn statements(
 
 /// One statement.
 #[cycle(eval)]
-fn statement(
+pub fn statement(
     alloc: Global,
     p: &Program,
     levels: u64,
@@ -526,7 +526,7 @@ fn step(
 }
 
 /// Keeps the first locals, this many.
-fn keep(locals: &mut Items<Local>, n: usize)
+pub fn keep(locals: &mut Items<Local>, n: usize)
     ensures { locals.new ≡ take n locals.old }
 {
     while locals.len() > n {

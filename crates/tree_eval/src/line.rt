@@ -1,10 +1,11 @@
 //! The lines that main prints.
 
-ghost use Rattle.std.specs.Prelude.{◌≡◌, ◌≤◌, IfOk};
+ghost use Rattle.std.specs.Prelude.{◌≡◌, ◌≤◌, ◌++◌, IfOk, OnOk};
 ghost use Rattle.csl_meaning.specs.Effect.{calls_to, most_levels};
 ghost use Rattle.csl_meaning.specs.Meaning as meaning;
 ghost use Rattle.tree_eval.specs.Fits.{FitsMemory};
-ghost use Rattle.tree_eval.specs.Follows.{AppendsAll, stays};
+ghost use Rattle.tree_eval.specs.Follows.{Follows, AppendsAll, stays};
+ghost use Rattle.tree_eval.specs.Pieces.{piece_of, spaced};
 
 use crate::eval::value;
 use crate::halt::Halt;
@@ -30,6 +31,28 @@ fn shown(alloc: Global, value: Val) -> Result<Text, NoMemory>
     }
 }
 
+/// The text of a printed item.
+fn piece(
+    alloc: Global,
+    p: &Program,
+    item: &Item,
+    locals: &Items<Local>,
+    world: &mut World,
+) -> Result<Text, Halt>
+    requires { FitsMemory p.now.shared }
+    ensures follows { Follows (piece_of p.now (calls_to p.now most_levels) locals.now item.now world.old) result world.new }
+    ensures fuel { world.new.fuel ≤ world.old.fuel }
+    ensures stays { stays world.new ≡ stays world.old }
+{
+    match item {
+        Item::Text(name) => Ok(Text::from_slice(alloc, name.text.as_slice())?),
+        Item::Value(e) => {
+            let v = value(alloc, p, 64, locals, e, world)?;
+            Ok(shown(alloc, v)?)
+        }
+    }
+}
+
 /// Appends the text of each printed item. The values are evaluated from left to right.
 pub fn pieces(
     alloc: Global,
@@ -45,11 +68,19 @@ pub fn pieces(
     ensures stays { stays world.new ≡ stays world.old }
 {
     for item in items {
-        let text = match item {
-            Item::Text(name) => Text::from_slice(alloc, name.text.as_slice())?,
-            Item::Value(e) => shown(alloc, value(alloc, p, 64, locals, e, world)?)?,
-        };
+        let text = piece(alloc, p, item, locals, world)?;
         texts.push(text)?;
+    }
+    Ok(())
+}
+
+/// Appends a piece of a line, and a blank behind it unless it is the last one.
+fn add_piece(line: &mut Vec<u8>, text: &Text, last: bool) -> Result<(), NoMemory>
+    ensures { OnOk result (line.new.items ≡ line.old.items ++ spaced last text.now) }
+{
+    line.extend_from_slice(text.as_slice())?;
+    if !last {
+        line.push(32)?;
     }
     Ok(())
 }
@@ -60,10 +91,7 @@ pub fn line_of(alloc: Global, texts: &[Text]) -> Result<Vec<u8>, NoMemory>
 {
     let mut line = Vec::new(alloc);
     for (i, text) in texts.iter().enumerate() {
-        line.extend_from_slice(text.as_slice())?;
-        if i + 1 < texts.len() {
-            line.push(32)?;
-        }
+        add_piece(&mut line, text, i + 1 == texts.len())?;
     }
     line.push(10)?;
     Ok(line)

@@ -1,12 +1,11 @@
 //! The widths of a step's blocks.
 
-ghost use Rattle.std.specs.Prelude.{◌≡◌, ◌≤◌, IfOk, sum};
-ghost use Rattle.std.specs.Option.{ForSome};
+ghost use Rattle.std.specs.Prelude.{◌≡◌, ◌≤◌, IfOk};
 ghost use Rattle.csl_meaning.specs.Effect.{calls_to, most_levels};
 ghost use Rattle.csl_meaning.specs.Meaning as meaning;
 ghost use Rattle.tree_eval.specs.Fits.{FitsMemory};
 ghost use Rattle.tree_eval.specs.Follows.{AppendsAll, stays};
-ghost use Rattle.tree_eval.specs.Widths.{good};
+ghost use Rattle.tree_eval.specs.Widths.{good, small_number};
 
 use crate::eval::value;
 use crate::halt::Halt;
@@ -38,18 +37,34 @@ pub fn widths_of(
     Ok(())
 }
 
-/// The widths, unless one is negative or there are too many routines.
+/// A number from 0 to 65,536.
+fn small(number: i64) -> Option<u32>
+    ensures { result ≡ small_number number }
+{
+    if 0 <= number && number <= 65536 {
+        Some(number as u32)
+    } else {
+        None
+    }
+}
+
+/// The widths, unless one is negative or there are more than 65,536 routines.
 pub fn good_widths(alloc: Global, numbers: &[i64]) -> Result<Option<Items<u32>>, NoMemory>
-    ensures widths { IfOk result (λ widths. widths ≡ good (meaning.naturals numbers.now)) }
+    ensures { IfOk result (λ widths. widths ≡ good (meaning.naturals numbers.now)) }
 {
     let mut widths = Items::new(alloc);
-    let mut total = 0i64;
+    let mut total = 0u32;
     for number in numbers {
-        if *number < 0 || *number > 65536 - total {
-            return Ok(None);
+        match small(*number) {
+            None => return Ok(None),
+            Some(width) => {
+                if width > 65536 - total {
+                    return Ok(None);
+                }
+                total += width;
+                widths.push(width)?;
+            }
         }
-        total += *number;
-        widths.push(*number as u32)?;
     }
     Ok(Some(widths))
 }
