@@ -9,3 +9,4 @@ pub mod Merging
 pub mod Installing
 pub mod Lines
 pub mod Telling
+pub mod Mains

@@ -1,12 +1,17 @@
 -- Statements at the tree's own constructors, and the turns of a loop.
-use Rattle.std.proofs.Common.{◌≡◌, length, take, ℕ, zero, suc, ◌+◌, ◌<◌, ◌≤◌, Bool, true, false, if◌then◌else◌, List, [], ◌∷◌, Option, Some, None, Result, Ok, Err, refl, sym, ap, ◌∙◌, subst, arith, ◌⊎◌, ⊎_elim}
+use Rattle.std.proofs.Common.{◌≡◌, length, take, ℕ, zero, suc, ◌+◌, ◌<◌, ◌≤◌, Bool, true, false, if◌then◌else◌, List, [], ◌∷◌, Option, Some, None, Result, Ok, Err, refl, sym, ap, ◌∙◌, subst, arith, ◌⊎◌, ⊎_elim, inl, inr}
 use denote.Hole.Carrier.{hidden}
 use Rattle.csl_tree.specs.declared.program.Program.{Program}
+use Rattle.csl_tree.specs.declared.name.Name.{Name}
+use Rattle.csl_tree.specs.declared.program.Ty.{Ty}
 use Rattle.csl_tree.specs.declared.program.Expr.{Expr}
+use Rattle.csl_tree.specs.declared.program.Place.{Place}
+use Rattle.csl_tree.specs.declared.program.Call.{Call}
 use Rattle.csl_tree.specs.declared.program.Stmt.{Stmt}
+use Rattle.csl_tree.specs.declared.program.RoutineBlock.{RoutineBlock}
 use Rattle.csl_tree.specs.declared.program.Form.{Form}
 use Rattle.csl_tree.specs.declared.program.Form.TheVariants as form
-use Rattle.csl_tree.specs.declared.program.Form.TheBlock.{shape-the_row-Stmt-1, hidden-the_row-Stmt-1, shape-the_row-Stmt-2, hidden-the_row-Stmt-2, shape-the_row-Arm-0, hidden-the_row-Arm-0, back-Form-If-1}
+use Rattle.csl_tree.specs.declared.program.Form.TheBlock.{shape-the_row-Stmt-1, hidden-the_row-Stmt-1, shape-the_row-Stmt-2, hidden-the_row-Stmt-2, shape-the_row-Arm-0, hidden-the_row-Arm-0, shape-the_row-RoutineBlock-3, hidden-the_row-RoutineBlock-3, back-Form-If-1}
 use Rattle.cal_base.specs.declared.ends.Cause.{Cause as CauseMet}
 use Rattle.cal_base.specs.declared.ends.Cause.TheVariants.{FuelSpent}
 use Rattle.cal_base.specs.declared.value.Val.{Val}
@@ -17,7 +22,7 @@ use Rattle.csl_meaning.specs.Operators.{truth_in}
 use Rattle.csl_meaning.specs.Locals.{Locals}
 use Rattle.csl_meaning.specs.Runs.{Outcome, Gives, Stops, Run, and_then, ◌>>=◌, ◌>>◌, pure, stop, spend, take_unit}
 use Rattle.csl_meaning.specs.Value.{Calls, value_of}
-use Rattle.csl_meaning.specs.Effect.{Went, MainOnly, effect, in_order, statements, scoped, loop, turns, turn, after_body, go_on, choose, otherwise, leave, locals_after, step_of}
+use Rattle.csl_meaning.specs.Effect.{Went, MainOnly, Stepping, nowhere, blocks_in, effect, in_order, statements, scoped, loop, turns, turn, after_body, go_on, choose, otherwise, leave, locals_after, step_of}
 use Rattle.tree_eval.specs.declared.halt.Halt.{Halt}
 use Rattle.tree_eval.specs.declared.halt.Halt.TheVariants.{Cause, NoMemory}
 use Rattle.csl_tree.specs.declared.program.Arm.{Arm, Arm', out-Arm, is-Arm'}
@@ -42,7 +47,16 @@ module _ (p : Program) (calls : Calls) (mains : MainOnly → Locals → Run Went
       ∙ ap (λ (b : Locals → Run Went). scoped b locals w) (in_order_is body)
 
 
+blocks_is : (blocks : List RoutineBlock) → blocks_in (hidden-the_row-RoutineBlock-3 blocks) ≡ blocks
+unfolding shape-the_row-RoutineBlock-3 hidden-the_row-RoutineBlock-3 hidden
+blocks_is [] = refl
+blocks_is (b ∷ rest) = ap (λ r. b ∷ r) (blocks_is rest)
+
 module _ (p : Program) (calls : Calls) (mains : MainOnly → Locals → Run Went) where
+  -- a `parbegin` by its list of blocks
+  pub effect_par : (f : Form) (blocks : List RoutineBlock) (locals : Locals) (w : World) → f ≡ form.Par blocks → effect p calls mains f locals w ≡ mains (Stepping blocks) locals w
+  effect_par f blocks locals w e = ap (λ g. effect p calls mains g locals w) e ∙ ap (λ bs. mains (Stepping bs) locals w) (blocks_is blocks)
+
   arms_is : (arms : List Arm) (last : Locals → Run Went) → choose p calls mains (hidden-the_row-Arm-0 arms) last ≡ chosen p calls mains arms last
   unfolding shape-the_row-Arm-0 hidden-the_row-Arm-0 hidden
   arms_is [] last = refl
@@ -75,7 +89,7 @@ module _ (p : Program) (calls : Calls) (mains : MainOnly → Locals → Run Went
       ap (λ g. effect p calls mains g locals w) e
       ∙ ap (λ (b : Locals → Run Went). and_then (after_one (effect p calls mains first.form locals w)) (λ inner. loop (λ l. value_of p calls l test) (scoped b) (step_of p calls mains (Some next)) inner >>= (λ went. pure (leave (length locals) went)))) (in_order_is p calls mains body)
 
-  one_gave : (o : Outcome Went) (e : Ending) (l : Locals) (w : World) → o ≡ Gives (e, l) w → after_one o ≡ Gives l w
+  pub one_gave : (o : Outcome Went) (e : Ending) (l : Locals) (w : World) → o ≡ Gives (e, l) w → after_one o ≡ Gives l w
   one_gave o e l w is = ap after_one is ∙ by_ending e
     where
       by_ending : (x : Ending) → after_one (Gives (x, l) w) ≡ Gives l w
@@ -130,7 +144,7 @@ module _ (test : Locals → Run Val) (body : Locals → Run Went) (next : Locals
   again zero locals = stop FuelSpent
   again (suc n) locals = take_unit >> turns n test body next locals
 
-  turns_is : (n : ℕ) → turns n test body next ≡ turn test body next (again n)
+  pub turns_is : (n : ℕ) → turns n test body next ≡ turn test body next (again n)
   turns_is zero = refl
   turns_is (suc n) = refl
 
@@ -181,3 +195,31 @@ module _ (test : Locals → Run Val) (body : Locals → Run Went) (next : Locals
   pub unit_taken : (n : ℕ) (l : Locals) (w w' : World) → w.fuel ≤ n → take_unit w ≡ Gives tt w' → w'.fuel + 1 ≡ w.fuel → (m : ℕ) × ((w'.fuel ≤ m) × (turns m test body next l w' ≡ again n l w))
   unit_taken zero l w w' le e f = absurd (omega arith)
   unit_taken (suc n) l w w' le e f = (n, (omega arith, ap (λ o. and_then o (λ _. turns n test body next l)) (sym e)))
+
+-- ---- a statement that is the same in main and elsewhere
+
+-- the form is one of those
+abbrev pub IsPlain : Form → Type 0
+IsPlain f =
+    ((ty : Ty) × (name : Name) × (e : Expr) × (f ≡ form.Declare ty name e))
+    ⊎ (((q : Place) × (e : Expr) × (f ≡ form.Set q e))
+    ⊎ (((q : Place) × (e : Expr) × (f ≡ form.AddTo q e))
+    ⊎ ((f ≡ form.Break)
+    ⊎ ((f ≡ form.Continue)
+    ⊎ (((given : Option Expr) × (f ≡ form.Return given))
+    ⊎ (((call : Call) × (f ≡ form.CallOf call))
+    ⊎ ((e : Expr) × (f ≡ form.Assert e))))))))
+
+module _ (p : Program) (calls : Calls) (mains : MainOnly → Locals → Run Went) where
+  same_at : (f g : Form) (locals : Locals) (w : World) → f ≡ g → effect p calls mains g locals w ≡ effect p calls nowhere g locals w → effect p calls mains f locals w ≡ effect p calls nowhere f locals w
+  same_at f g locals w e same = ap (λ x. effect p calls mains x locals w) e ∙ same ∙ sym (ap (λ x. effect p calls nowhere x locals w) e)
+
+  pub plain_is : (f : Form) (locals : Locals) (w : World) → IsPlain f → effect p calls mains f locals w ≡ effect p calls nowhere f locals w
+  plain_is f locals w (inl d) = same_at f (form.Declare d.0 d.1 d.2) locals w d.3 refl
+  plain_is f locals w (inr (inl d)) = same_at f (form.Set d.0 d.1) locals w d.2 refl
+  plain_is f locals w (inr (inr (inl d))) = same_at f (form.AddTo d.0 d.1) locals w d.2 refl
+  plain_is f locals w (inr (inr (inr (inl d)))) = same_at f form.Break locals w d refl
+  plain_is f locals w (inr (inr (inr (inr (inl d))))) = same_at f form.Continue locals w d refl
+  plain_is f locals w (inr (inr (inr (inr (inr (inl d)))))) = same_at f (form.Return d.0) locals w d.1 refl
+  plain_is f locals w (inr (inr (inr (inr (inr (inr (inl d))))))) = same_at f (form.CallOf d.0) locals w d.1 refl
+  plain_is f locals w (inr (inr (inr (inr (inr (inr (inr d))))))) = same_at f (form.Assert d.0) locals w d.1 refl

@@ -13,3 +13,4 @@ mod routine;
 mod step;
 mod store;
 mod widths;
+

@@ -67,7 +67,7 @@ pub fn function_named<'a>(functions: &'a [Function], name: &Text) -> Option<&'a 
 }
 
 /// How many words an array has. A size below 0 counts as 0.
-fn items_in(size: &Option<ArraySize>) -> Option<u32>
+pub fn items_in(size: &Option<ArraySize>) -> Option<u32>
     requires { layout.word_count (layout.items_in size.now) ≤ 262144 }
     ensures { result ≡ layout.items_in size.now }
 {
