@@ -10,3 +10,4 @@ pub mod Installing
 pub mod Lines
 pub mod Telling
 pub mod Mains
+pub mod Starting

@@ -206,7 +206,7 @@ fold_from : (a : ℕ) (xs : List ℕ) → fold ◌+◌ a xs ≡ a + fold ◌+◌
 fold_from a [] = omega arith
 fold_from a (x ∷ xs) = omega (arith, fold_from (a + x) xs, fold_from (0 + x) xs)
 
-sum_cons : (n : ℕ) (ns : List ℕ) → sum (n ∷ ns) ≡ n + sum ns
+pub sum_cons : (n : ℕ) (ns : List ℕ) → sum (n ∷ ns) ≡ n + sum ns
 sum_cons n ns = omega (arith, fold_from (0 + n) ns)
 
 pub answers_few : (p : Program) (memory : Memory) (fuel : ℕ) (blocks : List RoutineBlock) (widths : List ℕ) → length (all_of (answers p memory fuel blocks widths)) ≤ sum widths

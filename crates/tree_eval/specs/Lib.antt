@@ -11,3 +11,5 @@ pub mod Pieces
 pub mod Widths
 pub mod Ready
 pub mod Printed
+pub mod Initial
+pub mod Ends

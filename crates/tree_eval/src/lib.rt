@@ -1,7 +1,7 @@
 //! Evaluates a program's tree: its whole meaning, on one thread.
 #![tactic(auto)]
 
-mod eval;
+mod first_memory;
 mod halt;
 mod line;
 mod main_halt;
@@ -10,7 +10,10 @@ mod merge;
 mod names;
 mod operators;
 mod routine;
+mod run;
 mod step;
+mod stmt;
 mod store;
 mod widths;
 
+pub use run::{EvalError, eval};

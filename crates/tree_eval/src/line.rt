@@ -7,7 +7,7 @@ ghost use Rattle.tree_eval.specs.Fits.{FitsMemory};
 ghost use Rattle.tree_eval.specs.Follows.{Follows, AppendsAll, stays};
 ghost use Rattle.tree_eval.specs.Pieces.{piece_of, spaced};
 
-use crate::eval::value;
+use crate::stmt::value;
 use crate::halt::Halt;
 use cal_base::{NoMemory, Val};
 use csl_meaning::{Local, World};

@@ -15,7 +15,7 @@ ghost use Rattle.tree_eval.specs.Told.{Tells, TellsOf, TellsLocals, OutRose};
 ghost use Rattle.tree_eval.specs.Worlds.{IsMain, GoesOn};
 ghost use Rattle.tree_eval.specs.declared.main_halt.MainHalt.TheVariants.{OutFailed as out_failed};
 
-use crate::eval::{keep, statement, value};
+use crate::stmt::{keep, statement, value};
 use crate::line::{line_of, pieces};
 use crate::main_halt::{MainHalt, main_halt};
 use crate::operators::truth_in;

@@ -6,7 +6,7 @@ ghost use Rattle.csl_meaning.specs.Routines as routines;
 ghost use Rattle.tree_eval.specs.Finished.{finished};
 ghost use Rattle.tree_eval.specs.Fits.{FitsMemory};
 
-use crate::eval::statements;
+use crate::stmt::statements;
 use crate::halt::Halt;
 use cal_base::{Answer, KeptUpdate, NoMemory, Store, Val, Word};
 use csl_meaning::{Ending, Local, World};

@@ -7,7 +7,7 @@ ghost use Rattle.tree_eval.specs.Fits.{FitsMemory};
 ghost use Rattle.tree_eval.specs.Follows.{AppendsAll, stays};
 ghost use Rattle.tree_eval.specs.Widths.{good, small_number};
 
-use crate::eval::value;
+use crate::stmt::value;
 use crate::halt::Halt;
 use crate::operators::number_in;
 use cal_base::NoMemory;

@@ -13,7 +13,7 @@ use Rattle.tree_eval.specs.Follows.{Goes}
 use Rattle.csl_tree.specs.declared.program.Stmt.{Stmt}
 use Rattle.tree_eval.proofs.Loops.{effect_if, effect_while, effect_block, effect_for, step_gave, step_stopped, first_stops, loop_stops, loop_gives, again, test_stops, test_false, turn_stops, turn_gives, to_step, step_stops, unit_stops, unit_taken}
 use Rattle.tree_eval.proofs.Calls.{too_deep, no_function, body_stops, body_gives, found, found_none, begun, run_on}
-use Rattle.tree_eval.proofs.eval.+eval.Goals as goal
+use Rattle.tree_eval.proofs.stmt.+eval.Goals as goal
 
 pub value-returns-in-Paren-clause-follows : goal.value-returns-in-Paren-clause-follows
 value-returns-in-Paren-clause-follows t c = rw (value_paren _ _ _ _ _ _ c.in-Paren.is) (search rules)

@@ -1,6 +1,6 @@
 use Rattle.std.proofs.Common.{◌≡◌, map, ◌++◌, drop}
 use Rattle.csl_meaning.specs.Locals as locals_of
-use Rattle.tree_eval.proofs.eval.bound.Given as goal
+use Rattle.tree_eval.proofs.stmt.bound.Given as goal
 
 -- what is bound already, and then the rest
 abbrev pub invariant-loop-i : goal.invariant-loop-i
