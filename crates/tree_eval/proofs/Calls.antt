@@ -1,5 +1,5 @@
 -- What a call of a function does, by the number of levels.
-use Rattle.std.proofs.Common.{◌≡◌, ℕ, zero, suc, ◌-◌, ◌<◌, refl, sym, ap, ◌∙◌, subst, arith, List, [], ◌∷◌, Option, Some, None, Result, Ok, Err, map}
+use Rattle.std.proofs.Common.{◌≡◌, ℕ, zero, suc, ◌-◌, ◌<◌, refl, sym, ap, ◌∙◌, subst, arith, List, Some, None, Result, Ok, Err, map}
 use Rattle.cal_base.specs.declared.ends.Cause.TheVariants.{TooDeep}
 use Rattle.csl_tree.specs.declared.program.Program.{Program}
 use Rattle.csl_tree.specs.declared.program.Function.{Function}
@@ -9,10 +9,9 @@ use Rattle.csl_meaning.specs.Value.{Calls}
 use Rattle.cal_base.specs.declared.value.Val.{Val}
 use Rattle.csl_meaning.specs.declared.state.World.{World}
 use Rattle.csl_meaning.specs.declared.state.Ending.{Ending}
-use Rattle.csl_meaning.specs.declared.state.Ending.TheVariants as ending
 use Rattle.csl_meaning.specs.Locals.{Locals, bound}
-use Rattle.csl_meaning.specs.Runs.{Outcome, Gives, Stops, Run, and_then, pure}
-use Rattle.csl_meaning.specs.Effect.{Went, calls_to, run_function, function_named, statements, nowhere, given_back}
+use Rattle.csl_meaning.specs.Runs.{Gives, Stops, and_then, pure}
+use Rattle.csl_meaning.specs.Effect.{calls_to, run_function, function_named, statements, nowhere, given_back}
 use Rattle.tree_eval.specs.declared.halt.Halt.{Halt}
 use Rattle.tree_eval.specs.declared.halt.Halt.TheVariants.{Cause, NoMemory}
 use Rattle.tree_eval.specs.Follows.{Follows, Goes}

@@ -1,6 +1,6 @@
 -- The definitions at the tree's own constructors, and how outcomes follow one another.
 use Rattle.std.proofs.Common.{◌≡◌, Bool, true, false, ℕ, suc, ◌+◌, ◌<◌, length, get_or, drop, add-one, drop-cons, List, [], ◌∷◌, ◌++◌, Option, Some, None, Result, Ok, Err, refl, sym, ap, ◌∙◌, subst, append_assoc}
-use denote.Hole.Carrier.{hidden, roll}
+use denote.Hole.Carrier.{hidden}
 use Rattle.csl_tree.specs.declared.program.Program.{Program}
 use Rattle.csl_tree.specs.declared.program.Expr.{Expr}
 use Rattle.csl_tree.specs.declared.program.UnaryOp.{UnaryOp}
@@ -9,7 +9,7 @@ use Rattle.csl_tree.specs.declared.program.Node.{Node}
 use Rattle.csl_tree.specs.declared.program.Node.TheVariants as node
 use Rattle.csl_tree.specs.declared.program.Node.TheBlock.{shape-the_row-Expr-0, hidden-the_row-Expr-0, shape-the_row-Expr-1, hidden-the_row-Expr-1, back-Place-index}
 use Rattle.csl_tree.specs.declared.program.Place.{Place, Place', out-Place, is-Place'}
-use Rattle.csl_tree.specs.declared.program.Call.{Call, Call', out-Call, is-Call'}
+use Rattle.csl_tree.specs.declared.program.Call.{Call, out-Call, is-Call'}
 use Rattle.csl_meaning.specs.Layout.{area_of}
 use Rattle.csl_meaning.specs.Operators.{number_in, unary, binary, decided}
 use Rattle.cal_base.specs.declared.ends.Cause.{Cause as CauseMet}

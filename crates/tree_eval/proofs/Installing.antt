@@ -1,15 +1,11 @@
 -- What the merge answers.
-use Rattle.std.proofs.Common.{◌≡◌, ◌<◌, ◌≤◌, ℕ, zero, suc, length, List, [], ◌∷◌, Option, None, Some, Ok, Err, ◌∙◌, sym, ap, refl, arith, cond}
+use Rattle.std.proofs.Common.{◌≡◌, ◌<◌, ◌≤◌, ℕ, zero, suc, length, [], ◌∷◌, None, Some, Ok, Err, ◌∙◌, sym, ap, refl, arith, cond}
 use Rattle.std.specs.List.{position}
-use Rattle.std.specs.Prelude.{slice_get}
 use Rattle.std.proofs.lemmas.Bool.{le-ltb}
 use Rattle.cal_base.specs.declared.ends.StepFault.{StepFault}
 use Rattle.cal_base.specs.declared.ends.StepFault.TheVariants.{Total}
-use Rattle.cal_base.specs.declared.step.Word.{Word}
 use Rattle.cal_base.specs.declared.step.WordKind.{WordKind}
 use Rattle.cal_base.specs.Memory.{Memory, kinds_of, kind_at, is_ordinary, has_one_writer}
-use Rattle.std.specs.Option.{option_map_or}
-use Rattle.std.specs.Prelude.{false}
 use Rattle.cal_base.specs.Answers.{Answers}
 use Rattle.cal_base.specs.After.{after, least_faulty, fault_of, merged_memory, is_outside, unless_outside}
 use Rattle.step_laws.proofs.Agreement.{after_fault}

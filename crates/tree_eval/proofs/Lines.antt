@@ -1,24 +1,21 @@
 -- Lists that grow one by one, printed lines, and widths.
-use Rattle.std.proofs.Common.{◌≡◌, ℕ, zero, suc, ℤ, pos, negsuc, ◌+◌, ◌-◌, ◌<◌, ◌≤◌, length, drop, sum, Bool, true, false, List, [], ◌∷◌, ◌++◌, Option, Some, None, Result, Ok, Err, refl, sym, ap, ◌∙◌, subst, arith, append_assoc, append-nil, length-drop, cond, leb}
-use Rattle.std.specs.Prelude.{nat_le}
-use Rattle.std.proofs.lemmas.Bool.{leb-true}
+use Rattle.std.proofs.Common.{◌≡◌, ℕ, ℤ, List, [], ◌∷◌, ◌++◌, Option, Some, None, Result, Ok, Err, refl, sym, ap, ◌∙◌, subst, append_assoc}
 use Rattle.cal_base.specs.declared.ends.Cause.{Cause as CauseMet}
 use Rattle.cal_base.specs.declared.value.Val.{Val}
 use Rattle.csl_tree.specs.declared.program.Program.{Program}
 use Rattle.csl_tree.specs.declared.program.Item.{Item}
 use Rattle.csl_tree.specs.declared.program.Item.TheVariants as item
-use Rattle.csl_tree.specs.declared.program.RoutineBlock.{RoutineBlock, RoutineBlock', out-RoutineBlock, is-RoutineBlock'}
+use Rattle.csl_tree.specs.declared.program.RoutineBlock.{RoutineBlock, out-RoutineBlock, is-RoutineBlock'}
 use Rattle.csl_meaning.specs.declared.state.World.{World}
 use Rattle.csl_meaning.specs.Locals.{Locals}
 use Rattle.csl_meaning.specs.Operators.{number_in}
 use Rattle.csl_meaning.specs.Runs.{Outcome, Gives, Stops, ShowsLine, OpensStep, Run, and_then, ◌>>=◌, pure}
-use Rattle.csl_meaning.specs.Value.{Calls, value, value_of}
-use Rattle.csl_meaning.specs.Meaning.{pieces, widths_of, line_of, shown, naturals, and_natural, most_routines}
+use Rattle.csl_meaning.specs.Value.{Calls, value_of}
+use Rattle.csl_meaning.specs.Meaning.{pieces, widths_of, shown}
 use Rattle.tree_eval.specs.declared.halt.Halt.{Halt}
 use Rattle.tree_eval.specs.declared.halt.Halt.TheVariants.{Cause, NoMemory}
 use Rattle.tree_eval.specs.Follows.{Follows, AppendsAll}
-use Rattle.tree_eval.specs.Pieces.{piece_of, spaced}
-use Rattle.tree_eval.specs.Widths.{good, small_number}
+use Rattle.tree_eval.specs.Pieces.{piece_of}
 
 -- three runs, one after the other
 pub bind_assoc : {A B C : Type 0} (o : Outcome A) (f : A → Run B) (g : B → Run C) → and_then (and_then o f) g ≡ and_then o (λ a w. and_then (f a w) g)

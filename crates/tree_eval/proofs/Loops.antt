@@ -1,5 +1,5 @@
 -- Statements at the tree's own constructors, and the turns of a loop.
-use Rattle.std.proofs.Common.{◌≡◌, length, take, ℕ, zero, suc, ◌+◌, ◌<◌, ◌≤◌, Bool, true, false, if◌then◌else◌, List, [], ◌∷◌, Option, Some, None, Result, Ok, Err, refl, sym, ap, ◌∙◌, subst, arith, ◌⊎◌, ⊎_elim, inl, inr}
+use Rattle.std.proofs.Common.{◌≡◌, length, take, ℕ, zero, suc, ◌+◌, ◌≤◌, Bool, true, false, if◌then◌else◌, List, [], ◌∷◌, Option, Some, None, Err, refl, sym, ap, ◌∙◌, arith, ◌⊎◌, ⊎_elim, inl, inr}
 use denote.Hole.Carrier.{hidden}
 use Rattle.csl_tree.specs.declared.program.Program.{Program}
 use Rattle.csl_tree.specs.declared.name.Name.{Name}
@@ -22,10 +22,10 @@ use Rattle.csl_meaning.specs.Operators.{truth_in}
 use Rattle.csl_meaning.specs.Locals.{Locals}
 use Rattle.csl_meaning.specs.Runs.{Outcome, Gives, Stops, Run, and_then, ◌>>=◌, ◌>>◌, pure, stop, spend, take_unit}
 use Rattle.csl_meaning.specs.Value.{Calls, value_of}
-use Rattle.csl_meaning.specs.Effect.{Went, MainOnly, Stepping, nowhere, blocks_in, effect, in_order, statements, scoped, loop, turns, turn, after_body, go_on, choose, otherwise, leave, locals_after, step_of}
+use Rattle.csl_meaning.specs.Effect.{Went, MainOnly, Stepping, nowhere, blocks_in, effect, in_order, statements, scoped, loop, turns, turn, after_body, go_on, choose, otherwise, leave, step_of}
 use Rattle.tree_eval.specs.declared.halt.Halt.{Halt}
 use Rattle.tree_eval.specs.declared.halt.Halt.TheVariants.{Cause, NoMemory}
-use Rattle.csl_tree.specs.declared.program.Arm.{Arm, Arm', out-Arm, is-Arm'}
+use Rattle.csl_tree.specs.declared.program.Arm.{Arm, out-Arm, is-Arm'}
 use Rattle.tree_eval.specs.Lists.{chosen, last_block}
 use Rattle.tree_eval.specs.Follows.{Follows, Goes, Sets}
 
@@ -45,7 +45,6 @@ module _ (p : Program) (calls : Calls) (mains : MainOnly → Locals → Run Went
   effect_block f body locals w e =
       ap (λ g. effect p calls mains g locals w) e
       ∙ ap (λ (b : Locals → Run Went). scoped b locals w) (in_order_is body)
-
 
 blocks_is : (blocks : List RoutineBlock) → blocks_in (hidden-the_row-RoutineBlock-3 blocks) ≡ blocks
 unfolding shape-the_row-RoutineBlock-3 hidden-the_row-RoutineBlock-3 hidden
@@ -74,6 +73,7 @@ module _ (p : Program) (calls : Calls) (mains : MainOnly → Locals → Run Went
     where
       arms_are : (all : List Arm) → choose p calls mains (hidden-the_row-Arm-0 all) ≡ chosen p calls mains all
       arms_are all = λ i last'. arms_is all last' i
+
       last_is : (l : Option (List Stmt)) → otherwise p calls mains (back-Form-If-1 l) ≡ last_block p calls mains l
       last_is None = refl
       last_is (Some body) = ap (λ (b : Locals → Run Went). λ (locals' : Locals). scoped b locals') (in_order_is p calls mains body)

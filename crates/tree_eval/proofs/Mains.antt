@@ -1,9 +1,8 @@
 -- What main's statements tell, one part after the other.
-use Rattle.std.proofs.Common.{◌≡◌, ℕ, zero, suc, ◌+◌, ◌<◌, ◌≤◌, length, take, drop, Bool, true, false, if◌then◌else◌, List, [], ◌∷◌, Option, Some, None, Result, Ok, Err, refl, sym, ap, ◌∙◌, subst, arith, ◌⊎◌, ⊎_elim}
+use Rattle.std.proofs.Common.{◌≡◌, ℕ, zero, suc, ◌+◌, ◌≤◌, length, take, drop, Bool, true, false, if◌then◌else◌, List, [], ◌∷◌, Option, Some, Result, Ok, Err, refl, sym, ap, subst, arith, ◌⊎◌, ⊎_elim}
 use Rattle.cal_base.specs.declared.ends.Cause.TheVariants.{FuelSpent}
 use Rattle.cal_base.specs.declared.value.Val.{Val}
 use Rattle.csl_tree.specs.declared.program.Program.{Program}
-use Rattle.csl_tree.specs.declared.program.Expr.{Expr}
 use Rattle.csl_tree.specs.declared.program.Stmt.{Stmt}
 use Rattle.csl_tree.specs.declared.program.Arm.{Arm, out-Arm}
 use Rattle.csl_meaning.specs.declared.state.World.{World}
@@ -11,11 +10,10 @@ use Rattle.csl_meaning.specs.declared.state.Ending.{Ending}
 use Rattle.csl_meaning.specs.declared.state.Ending.TheVariants as ending
 use Rattle.csl_meaning.specs.Operators.{truth_in}
 use Rattle.csl_meaning.specs.Locals.{Locals}
-use Rattle.csl_meaning.specs.Runs.{Outcome, Gives, Stops, Run, and_then, ◌>>=◌, ◌>>◌, pure, stop, spend, take_unit}
+use Rattle.csl_meaning.specs.Runs.{Outcome, Gives, Run, and_then, ◌>>=◌, pure, stop, spend, take_unit}
 use Rattle.csl_meaning.specs.Value.{Calls, value_of}
-use Rattle.csl_meaning.specs.Effect.{Went, MainOnly, effect, statements, scoped, turns, turn, after_body, go_on, leave, step_of}
+use Rattle.csl_meaning.specs.Effect.{Went, MainOnly, effect, statements, scoped, turns, after_body, go_on, leave, step_of}
 use Rattle.tree_eval.specs.declared.main_halt.MainHalt.{MainHalt}
-use Rattle.tree_eval.specs.declared.main_halt.MainHalt.TheVariants as halt
 use Rattle.tree_eval.specs.Lists.{chosen, last_block}
 use Rattle.tree_eval.specs.Told.{Told, TellsOf, Tells, TellsLocals}
 use Rattle.tree_eval.proofs.Loops.{after_one, one_gave, again, turns_is, tested}

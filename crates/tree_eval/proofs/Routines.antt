@@ -1,10 +1,10 @@
 -- What a routine leaves, and the answers of a step.
-use Rattle.std.proofs.Common.{◌≡◌, ℕ, suc, zero, ◌+◌, ◌-◌, ◌<◌, pos, map, length, drop, get_or, List, [], ◌∷◌, ◌++◌, Option, Some, None, Result, Ok, Err, refl, sym, ap, ◌∙◌, subst, arith, append_assoc, append-nil, drop-cons, add-one}
-use Rattle.std.specs.Prelude.{IfOk, slice_get}
+use Rattle.std.proofs.Common.{◌≡◌, ℕ, suc, ◌+◌, ◌-◌, ◌<◌, pos, map, drop, List, [], ◌∷◌, ◌++◌, Option, Some, Result, Ok, Err, refl, sym, ap, ◌∙◌, subst, arith, append_assoc, append-nil}
+use Rattle.std.specs.Prelude.{IfOk}
 use Rattle.std.specs.FinMap.{empty}
 use Rattle.csl_tree.specs.declared.program.Program.{Program}
 use Rattle.csl_tree.specs.declared.program.Stmt.{Stmt}
-use Rattle.csl_tree.specs.declared.program.RoutineBlock.{RoutineBlock, RoutineBlock', out-RoutineBlock, is-RoutineBlock'}
+use Rattle.csl_tree.specs.declared.program.RoutineBlock.{RoutineBlock, out-RoutineBlock, is-RoutineBlock'}
 use Rattle.cal_base.specs.declared.answer.Answer.{Answer}
 use Rattle.cal_base.specs.declared.value.Val.TheVariants as val
 use Rattle.cal_base.specs.declared.value.Store.{Store}
@@ -12,16 +12,15 @@ use Rattle.cal_base.specs.declared.value.Store.TheVariants as store
 use Rattle.cal_base.specs.Answers.{all_of}
 use Rattle.cal_base.specs.Memory.{Memory}
 use Rattle.cal_base.specs.Updates.{Written}
-use Rattle.cal_base.specs.Stores.{memory_in}
 use Rattle.csl_meaning.specs.declared.state.Ending.{Ending}
 use Rattle.csl_meaning.specs.declared.state.World.{World}
 use Rattle.csl_meaning.specs.Locals.{Locals, bound}
-use Rattle.csl_meaning.specs.Runs.{Outcome, Gives, Stops, Run}
+use Rattle.csl_meaning.specs.Runs.{Outcome, Run}
 use Rattle.csl_meaning.specs.Effect.{Went, statements, calls_to, most_levels, nowhere}
 use Rattle.csl_meaning.specs.Routines.{answer, answers, answer_by, opening_world, counted}
 use Rattle.tree_eval.specs.declared.halt.Halt.{Halt}
 use Rattle.tree_eval.specs.declared.halt.Halt.TheVariants.{Cause, NoMemory}
-use Rattle.tree_eval.specs.Follows.{Goes, opening_of, stays}
+use Rattle.tree_eval.specs.Follows.{Goes, opening_of}
 use Rattle.tree_eval.specs.Finished.{finished}
 use Rattle.tree_eval.proofs.Loops.{in_order_is}
 
@@ -52,9 +51,9 @@ pub right_answer : (p : Program) (opening : Memory) (fuel : ℕ) (b : RoutineBlo
 right_answer p opening fuel b width id body begun l written went w same begins g none =
     let o : Outcome Went = statements p (calls_to p most_levels) nowhere body begun (record { store = store.Routine opening written; fuel = fuel; steps = 0 }) in
     let is : o ≡ statements p (calls_to p most_levels) nowhere (out-RoutineBlock b).body (bound ((out-RoutineBlock b).width_name.text ∷ (out-RoutineBlock b).id_name.text ∷ []) (val.Int (pos width) ∷ val.Int (pos id) ∷ [])) (opening_world opening fuel) =
-        ap (λ x. statements p (calls_to p most_levels) nowhere body begun (record { store = store.Routine opening x; fuel = fuel; steps = 0 })) none
-        ∙ ap (λ x. statements p (calls_to p most_levels) nowhere x begun (opening_world opening fuel)) same
-        ∙ ap (λ x. statements p (calls_to p most_levels) nowhere (out-RoutineBlock b).body x (opening_world opening fuel)) begins in
+    ap (λ x. statements p (calls_to p most_levels) nowhere body begun (record { store = store.Routine opening x; fuel = fuel; steps = 0 })) none
+    ∙ ap (λ x. statements p (calls_to p most_levels) nowhere x begun (opening_world opening fuel)) same
+    ∙ ap (λ x. statements p (calls_to p most_levels) nowhere (out-RoutineBlock b).body x (opening_world opening fuel)) begins in
     subst (λ a. IfOk (finished went w.store) (λ r. r.1 ≡ a)) (sym (answer_is p opening fuel b width id))
     (subst (λ (a : Outcome Went). IfOk (finished went w.store) (λ r. r.1 ≡ answer_by a)) is (given_answer o went l w g))
 

@@ -1,7 +1,6 @@
 -- How far the evaluator descends: a number for each part of a program, greater than those of the parts within it.
-use Rattle.std.proofs.Common.{◌≡◌, ℕ, zero, suc, ◌+◌, ◌*◌, ◌-◌, ◌<◌, ◌≤◌, refl, sym, ap, ◌∙◌, subst, arith, List, [], ◌∷◌, Option, Some, None, Bool, true, false, if◌then◌else◌, length, get_or, rules}
+use Rattle.std.proofs.Common.{◌≡◌, ℕ, zero, suc, ◌+◌, ◌*◌, ◌-◌, ◌<◌, ◌≤◌, refl, sym, ap, ◌∙◌, arith, List, [], ◌∷◌, Option, Some, None, Bool, true, false, if◌then◌else◌, length, get_or}
 use Rattle.std.specs.Str.{bytes_eq}
-use native.Mathlib.Numerals.{unary_clauses}
 use denote.Hole.Carrier.{hidden}
 use Rattle.csl_tree.specs.declared.program.Program.{Program}
 use Rattle.csl_tree.specs.declared.program.Function.{Function}
@@ -226,7 +225,7 @@ last_is (Some body) = ap suc (row_is body)
 pub in_if : (f : Form) (arms : List Arm) (last : Option (List Stmt)) → f ≡ form.If arms last → suc (arms_list_weight arms + last_body_weight last) < form_weight f
 in_if f arms last is =
     let w : form_weight f ≡ suc (suc (arms_list_weight arms + last_body_weight last)) =
-        ap form_weight is ∙ ap (λ n. suc (suc (n + last_weight (back-Form-If-1 last)))) (arms_are arms) ∙ ap (λ n. suc (suc (arms_list_weight arms + n))) (last_is last) in
+    ap form_weight is ∙ ap (λ n. suc (suc (n + last_weight (back-Form-If-1 last)))) (arms_are arms) ∙ ap (λ n. suc (suc (arms_list_weight arms + n))) (last_is last) in
     omega arith
 
 pub in_while : (f : Form) (test : Expr) (body : List Stmt) → f ≡ form.While test body → suc (suc (expr_weight test + (body_weight body + 0))) < form_weight f

@@ -1,10 +1,9 @@
 -- The first memory, and a whole run.
-use Rattle.std.proofs.Common.{◌≡◌, ℕ, zero, suc, ℤ, pos, ◌+◌, ◌-◌, ◌<◌, ◌≤◌, length, map, replicate, false, List, [], ◌∷◌, ◌++◌, Option, Some, None, Result, Ok, Err, refl, sym, ap, ◌∙◌, subst, arith, append_assoc, append-nil, length-append, get_or}
+use Rattle.std.proofs.Common.{◌≡◌, ℕ, zero, suc, ℤ, pos, ◌+◌, ◌-◌, ◌<◌, ◌≤◌, length, map, replicate, List, [], ◌∷◌, ◌++◌, Option, Result, Ok, Err, refl, sym, ap, ◌∙◌, subst, arith, append_assoc, append-nil, length-append, get_or}
 use Rattle.std.specs.Prelude.{IfOk, OnErr, IsErrOf}
 use Rattle.std.specs.Io.KnownBytes.{Appends}
 use Rattle.cal_base.specs.declared.step.Word.{Word}
 use Rattle.cal_base.specs.declared.step.WordKind.{WordKind}
-use Rattle.cal_base.specs.declared.ends.RunEnd.{RunEnd}
 use Rattle.cal_base.specs.declared.ends.RunEnd.TheVariants.{Done}
 use Rattle.cal_base.specs.declared.value.Store.TheVariants as store
 use Rattle.cal_base.specs.Memory.{Memory, memory_of}
@@ -21,16 +20,15 @@ use Rattle.csl_meaning.specs.Layout.{first_words, words_in, first_memory}
 use Rattle.csl_meaning.specs.Locals.{Locals}
 use Rattle.csl_meaning.specs.Runs.{Outcome, Gives, Stops, ShowsLine, OpensStep}
 use Rattle.csl_meaning.specs.Effect.{Went, statements, calls_to, most_levels}
-use Rattle.csl_meaning.specs.Meaning.{in_main, run_of, main_of, main}
+use Rattle.csl_meaning.specs.Meaning.{in_main, run_of, main_of}
 use Rattle.tree_eval.specs.declared.main_halt.MainHalt.{MainHalt}
 use Rattle.tree_eval.specs.declared.main_halt.MainHalt.TheVariants as halt
-use Rattle.tree_eval.specs.declared.run.EvalError.{EvalError}
 use Rattle.tree_eval.specs.declared.run.EvalError.TheVariants as error
 use Rattle.tree_eval.specs.Ends.{end_after}
 use Rattle.tree_eval.specs.Initial.{stated_value}
 use Rattle.tree_eval.specs.Fits.{words_of}
 use Rattle.tree_eval.proofs.Telling.{sum_cons}
-use Rattle.tree_eval.specs.Told.{continued, text_by, end_by, Told, Finishes, ToldSome, Tells, OutRose}
+use Rattle.tree_eval.specs.Told.{continued, text_by, end_by, ToldSome, Tells, OutRose}
 
 -- ---- the words of a declaration
 

@@ -1,5 +1,5 @@
 -- What main tells, one part after the other.
-use Rattle.std.proofs.Common.{◌≡◌, ℕ, ℤ, Bool, true, cond, suc, zero, ◌+◌, ◌≤◌, length, take, map, sum, List, [], ◌∷◌, ◌++◌, Option, Some, None, Result, Ok, Err, refl, sym, ap, ◌∙◌, subst, arith, append_assoc, append-nil, length-append, false}
+use Rattle.std.proofs.Common.{◌≡◌, ℕ, ℤ, Bool, true, cond, suc, zero, ◌+◌, ◌≤◌, length, take, map, sum, List, [], ◌∷◌, ◌++◌, Option, Some, None, Ok, Err, refl, sym, ap, ◌∙◌, subst, arith, append_assoc, length-append, false}
 use Rattle.std.specs.Io.{StartsWith}
 use Rattle.std.specs.Prelude.{nat_le}
 use Rattle.std.specs.List.{fold}
@@ -7,7 +7,7 @@ use Rattle.std.specs.Io.KnownBytes.{Appends}
 use Rattle.std.proofs.KnownBytes.{Appends-nil, Appends-trans}
 use Rattle.cal_base.specs.declared.ends.RunEnd.{RunEnd}
 use Rattle.cal_base.specs.declared.ends.Cause.TheVariants.{BadWidth}
-use Rattle.cal_base.specs.declared.ends.RunEnd.TheVariants.{MainFault, StepFailed}
+use Rattle.cal_base.specs.declared.ends.RunEnd.TheVariants.{StepFailed}
 use Rattle.cal_base.specs.declared.ends.StepFault.{StepFault}
 use Rattle.cal_base.specs.declared.value.Store.TheVariants as store
 use Rattle.cal_base.specs.Memory.{Memory}
@@ -15,13 +15,12 @@ use Rattle.cal_base.specs.Stores.{memory_in}
 use Rattle.cal_base.specs.declared.answer.Answer.{Answer}
 use Rattle.cal_base.specs.Answers.{all_of}
 use Rattle.cal_base.specs.After.{after}
-use Rattle.cal_base.specs.Main.{Main, Ends, Shows, Opens, meaning_of, going_on, step_event}
+use Rattle.cal_base.specs.Main.{Main, Shows, Opens, meaning_of, going_on}
 use Rattle.cal_base.specs.Claims.{StepJob}
 use Rattle.cal_base.specs.Text.{text_of}
 use Rattle.csl_tree.specs.declared.program.Program.{Program}
 use Rattle.csl_tree.specs.declared.program.RoutineBlock.{RoutineBlock}
 use Rattle.csl_meaning.specs.declared.state.World.{World}
-use Rattle.csl_meaning.specs.declared.state.Ending.{Ending}
 use Rattle.csl_meaning.specs.declared.state.Ending.TheVariants as ending
 use Rattle.csl_meaning.specs.Locals.{Locals}
 use Rattle.csl_meaning.specs.Runs.{Outcome, Gives, Stops, ShowsLine, OpensStep, Run, and_then, ◌>>=◌, ◌>>◌, pure, stop, take_unit}

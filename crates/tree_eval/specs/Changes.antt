@@ -1,5 +1,5 @@
 -- Writing and adding, by one flag: does the statement add?
-use Rattle.std.specs.Prelude.{ℕ, ◌+ℤ◌, Bool, true, false, Option, Some, None}
+use Rattle.std.specs.Prelude.{ℕ, ◌+ℤ◌, Bool, true, false}
 use Rattle.cal_base.specs.declared.value.Val.{Val}
 use Rattle.cal_base.specs.Arithmetic.{checked}
 use Rattle.csl_tree.specs.declared.program.Program.{Program}

@@ -1,5 +1,5 @@
 -- What the answers leave in one word.
-use Rattle.std.specs.Prelude.{ℕ, Bool, false, List, Option, Some, None, slice_get}
+use Rattle.std.specs.Prelude.{ℕ, Bool, false, slice_get}
 use Rattle.std.specs.Option.{option_map_or}
 use Rattle.cal_base.specs.declared.step.Word.{Word}
 use Rattle.cal_base.specs.Memory.{Memory}

@@ -1,5 +1,5 @@
 -- The worlds in which main runs.
-use Rattle.std.specs.Prelude.{ℕ, ◌+◌, ◌≤◌, ◌^◌, ◌<◌, length}
+use Rattle.std.specs.Prelude.{◌+◌, ◌≤◌, ◌^◌, ◌<◌, length}
 use Rattle.cal_base.specs.Stores.{memory_in}
 use Rattle.csl_meaning.specs.declared.state.World.{World}
 

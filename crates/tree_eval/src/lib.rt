@@ -17,3 +17,6 @@ mod store;
 mod widths;
 
 pub use run::{EvalError, eval};
+
+#[cfg(test)]
+mod tests;

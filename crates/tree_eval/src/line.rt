@@ -7,8 +7,8 @@ ghost use Rattle.tree_eval.specs.Fits.{FitsMemory};
 ghost use Rattle.tree_eval.specs.Follows.{Follows, AppendsAll, stays};
 ghost use Rattle.tree_eval.specs.Pieces.{piece_of, spaced};
 
-use crate::stmt::value;
 use crate::halt::Halt;
+use crate::stmt::value;
 use cal_base::{NoMemory, Val};
 use csl_meaning::{Local, World};
 use csl_tree::name::Text;

@@ -15,11 +15,11 @@ ghost use Rattle.tree_eval.specs.Told.{Tells, TellsOf, TellsLocals, OutRose};
 ghost use Rattle.tree_eval.specs.Worlds.{IsMain, GoesOn};
 ghost use Rattle.tree_eval.specs.declared.main_halt.MainHalt.TheVariants.{OutFailed as out_failed};
 
-use crate::stmt::{keep, statement, value};
 use crate::line::{line_of, pieces};
 use crate::main_halt::{MainHalt, main_halt};
 use crate::operators::truth_in;
 use crate::step::parbegin;
+use crate::stmt::{keep, statement, value};
 use crate::store::take_unit;
 use cal_base::{Sink, Val, write_all};
 use csl_meaning::{Ending, Local, World};
@@ -143,8 +143,19 @@ fn main_statement<S: Sink>(
     ensures goes_on { OnOk result (GoesOn world.old world.new) }
 {
     match &s.form {
-        Form::If { arms, last } => main_choose(alloc, p, fuel, arms.as_slice(), last, locals, world, out),
-        Form::While { test, body } => main_turns(alloc, p, fuel, test, body, None, locals, world, out),
+        Form::If { arms, last } => main_choose(
+            alloc,
+            p,
+            fuel,
+            arms.as_slice(),
+            last,
+            locals,
+            world,
+            out,
+        ),
+        Form::While { test, body } => main_turns(
+            alloc, p, fuel, test, body, None, locals, world, out,
+        ),
         Form::For {
             first,
             test,

@@ -4,7 +4,6 @@ ghost use Rattle.std.specs.Prelude.{◌≡◌, MatchOption};
 ghost use Rattle.csl_meaning.specs.Operators as spec;
 
 use cal_base::{Cause, Val};
-
 use csl_tree::program::{BinaryOp, UnaryOp};
 
 /// The number in a value.

@@ -6,15 +6,14 @@ ghost use Rattle.csl_meaning.specs.Routines as routines;
 ghost use Rattle.tree_eval.specs.Finished.{finished};
 ghost use Rattle.tree_eval.specs.Fits.{FitsMemory};
 
-use crate::stmt::statements;
 use crate::halt::Halt;
+use crate::stmt::statements;
 use cal_base::{Answer, KeptUpdate, NoMemory, Store, Val, Word};
 use csl_meaning::{Ending, Local, World};
 use csl_tree::name::Text;
 use csl_tree::program::{Program, RoutineBlock};
 use sqlite_items::Items;
 use std::alloc::Global;
-
 
 /// The opening memory and the answer, by how the routine ended and what it wrote.
 fn finish(

@@ -62,6 +62,14 @@ pub fn eval<S: Sink>(
         steps: 0,
     };
     let mut locals: Items<Local> = Items::new(alloc);
-    let went = main_statements(alloc, p, fuel as u64, p.main.as_slice(), &mut locals, &mut world, out);
+    let went = main_statements(
+        alloc,
+        p,
+        fuel as u64,
+        p.main.as_slice(),
+        &mut locals,
+        &mut world,
+        out,
+    );
     run_end(went, world.steps)
 }

@@ -10,9 +10,9 @@ ghost use Rattle.tree_eval.specs.Lists.{values_of, changed, chosen, last_block};
 ghost use Rattle.tree_eval.specs.Changes.{changed_word, changed_local, changed_name, changed_item};
 ghost use Rattle.std.specs.Option.{option_copied};
 
-use crate::operators::{binary, decided, number_in, truth_in, unary};
 use crate::halt::Halt;
 use crate::names::{area_of, function_named, item_at, local_value, set_local};
+use crate::operators::{binary, decided, number_in, truth_in, unary};
 use crate::store::{put_word, raise_word, read_word, take_unit};
 use cal_base::{Cause, NoMemory, Val};
 use csl_meaning::{Ending, Local, World};

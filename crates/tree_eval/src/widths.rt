@@ -7,9 +7,9 @@ ghost use Rattle.tree_eval.specs.Fits.{FitsMemory};
 ghost use Rattle.tree_eval.specs.Follows.{AppendsAll, stays};
 ghost use Rattle.tree_eval.specs.Widths.{good, small_number};
 
-use crate::stmt::value;
 use crate::halt::Halt;
 use crate::operators::number_in;
+use crate::stmt::value;
 use cal_base::NoMemory;
 use csl_meaning::{Local, World};
 use csl_tree::program::{Program, RoutineBlock};

@@ -1,7 +1,6 @@
-use Rattle.std.proofs.Common.{◌∙◌, ◌≡◌, ◌<◌, ◌+◌, ◌-◌, ◌++◌, ℕ, ap, sym, arith, rules, SFits, w64}
+use Rattle.std.proofs.Common.{◌∙◌, ◌++◌, ap, arith, rules, SFits, w64}
 use Rattle.std.proofs.lemmas.Int.{to_z-of_z}
 use Rattle.std.proofs.lemmas.Result.{IfOk-at_ok}
-use Rattle.cal_base.specs.declared.step.Word.{Word}
 use Rattle.csl_meaning.specs.Layout.{words_in, word_count}
 use Rattle.tree_eval.specs.Initial.{stated_value}
 use Rattle.tree_eval.proofs.Starting.{words_from, words_whole, word_more, sub_zero, word_of}

@@ -1,4 +1,4 @@
-use Rattle.std.proofs.Common.{◌∙◌, ap, sym, rules, SFits, w64}
+use Rattle.std.proofs.Common.{◌∙◌, rules, SFits, w64}
 use Rattle.std.proofs.lemmas.Int.{to_z-of_z}
 use Rattle.tree_eval.proofs.Starting.{stated_there, stated_none}
 use Rattle.tree_eval.proofs.first_memory.stated.Goals as goal

@@ -1,4 +1,4 @@
-use Rattle.std.proofs.Common.{◌∙◌, ap, sym, arith, drop, ◌+◌, ◌++◌, ◌∷◌, []}
+use Rattle.std.proofs.Common.{◌∙◌, arith, drop, ◌+◌}
 use Rattle.std.proofs.lemmas.Result.{err_from_is_err_and, IfOk-at_ok}
 use Rattle.csl_meaning.specs.Effect.{calls_to, most_levels}
 use Rattle.csl_meaning.specs.Meaning as meaning

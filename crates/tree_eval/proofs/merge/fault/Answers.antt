@@ -1,4 +1,4 @@
-use Rattle.std.proofs.Common.{◌≡◌, sym, ap, ◌∙◌}
+use Rattle.std.proofs.Common.{ap, ◌∙◌}
 use Rattle.cal_base.specs.After.{fault_of, fault_by, first_writer}
 use Rattle.tree_eval.proofs.Searching.{found}
 use Rattle.tree_eval.proofs.merge.fault.Goals as goal

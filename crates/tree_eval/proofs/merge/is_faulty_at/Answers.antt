@@ -1,6 +1,6 @@
 use Rattle.tree_eval.proofs.Installing.{kinds_length}
 use Rattle.cal_base.specs.Memory.{kinds_of}
-use Rattle.std.proofs.Common.{◌≡◌, ◌<◌, ℕ, false, true, ◌||◌, ltb, length, arith, sym, ap, ◌∙◌}
+use Rattle.std.proofs.Common.{◌≡◌, false, true, ◌||◌, ltb, length, sym, ap, ◌∙◌}
 use Rattle.std.proofs.lemmas.Bool.{or_left}
 use Rattle.cal_base.specs.Answers.{answer_of, is_fault}
 use Rattle.cal_base.specs.After.{is_faulty, shared_word}

@@ -1,6 +1,5 @@
 use Rattle.cal_base.specs.Memory.{kinds_of}
-use Rattle.std.proofs.Common.{◌≡◌, ◌<◌, ℕ, length, arith, sym, ap, ◌∙◌}
-use Rattle.cal_base.specs.After.{is_faulty, least_faulty}
+use Rattle.std.proofs.Common.{length, arith, sym, ◌∙◌}
 use Rattle.step_laws.proofs.Agreement.{least_faulty_at}
 use Rattle.tree_eval.proofs.merge.least.Goals as goal
 

@@ -1,4 +1,4 @@
-use Rattle.std.proofs.Common.{◌≡◌, length, sym, ap, ◌∙◌, arith}
+use Rattle.std.proofs.Common.{length, sym, ap, ◌∙◌, arith}
 use Rattle.std.specs.List.{position}
 use Rattle.cal_base.specs.Memory.{kinds_of}
 use Rattle.cal_base.specs.After.{least_faulty, fault_of, is_outside, merged_memory}

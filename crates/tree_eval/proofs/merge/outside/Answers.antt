@@ -1,4 +1,4 @@
-use Rattle.std.proofs.Common.{◌≡◌, sym, ◌∙◌, arith}
+use Rattle.std.proofs.Common.{sym, ◌∙◌, arith}
 use Rattle.tree_eval.proofs.Merging.{outside_found, outside_none}
 use Rattle.tree_eval.proofs.merge.outside.Goals as goal
 

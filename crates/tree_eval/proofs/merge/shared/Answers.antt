@@ -1,6 +1,6 @@
 use Rattle.tree_eval.proofs.Installing.{kinds_length}
 use Rattle.cal_base.specs.Memory.{kinds_of}
-use Rattle.std.proofs.Common.{◌≡◌, ◌<◌, ℕ, length, arith, sym, ap, ◌∙◌}
+use Rattle.std.proofs.Common.{length, arith, sym, ◌∙◌}
 use Rattle.cal_base.specs.After.{is_shared, shared_word}
 use Rattle.step_laws.proofs.Searches.{least_at}
 use Rattle.tree_eval.proofs.merge.shared.Goals as goal

@@ -1,4 +1,4 @@
-use Rattle.std.proofs.Common.{◌≡◌, ◌<◌, length, sym, ap, ◌∙◌, arith, rules, SFits, w64, to_z, of_z}
+use Rattle.std.proofs.Common.{ap, ◌∙◌, arith, rules, SFits, w64, to_z, of_z}
 use Rattle.std.specs.Int.{w128}
 use Rattle.std.proofs.lemmas.Int.{to_z-of_z}
 use Rattle.cal_base.specs.Memory.{kind_at, value_at, with_value}

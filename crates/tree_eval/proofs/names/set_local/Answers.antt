@@ -1,4 +1,4 @@
-use Rattle.std.proofs.Common.{◌∙◌, ◌≡◌, ◌<◌, ap, sym, subst, arith, rules, true, length, set, get_or}
+use Rattle.std.proofs.Common.{◌∙◌, ◌≡◌, ◌<◌, ap, subst, arith, rules, true, length, set, get_or}
 use Rattle.std.specs.Str.{bytes_eq}
 use Rattle.csl_meaning.specs.Locals.{Locals}
 use Rattle.tree_eval.proofs.Words.{set_local-there}

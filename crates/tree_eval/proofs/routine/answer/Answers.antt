@@ -1,5 +1,5 @@
-use Rattle.std.proofs.Common.{rules, refl}
-use Rattle.tree_eval.proofs.Routines.{right_answer, same_opening}
+use Rattle.std.proofs.Common.{refl}
+use Rattle.tree_eval.proofs.Routines.{right_answer}
 use Rattle.tree_eval.proofs.routine.answer.Goals as goal
 
 pub returns-clause-answer : goal.returns-clause-answer

@@ -1,4 +1,3 @@
-use Rattle.std.proofs.Common.{◌∙◌, ap, sym}
 use Rattle.std.proofs.lemmas.Result.{err_from_is_err_and}
 use Rattle.tree_eval.proofs.Telling.{par_stops, par_halts, par_done}
 use Rattle.tree_eval.proofs.step.parbegin.Goals as goal

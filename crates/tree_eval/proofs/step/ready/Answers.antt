@@ -1,4 +1,4 @@
-use Rattle.std.proofs.Common.{◌∙◌, ap, sym}
+use Rattle.std.proofs.Common.{◌∙◌, sym}
 use Rattle.std.proofs.lemmas.Result.{err_from_is_err_and}
 use Rattle.tree_eval.proofs.Telling.{ready_none, ready_stops, ready_gives}
 use Rattle.tree_eval.proofs.step.ready.Goals as goal

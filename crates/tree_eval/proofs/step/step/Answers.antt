@@ -1,12 +1,8 @@
-use Rattle.std.proofs.Common.{◌≡◌, ◌∙◌, ap, sym, subst, arith, length, add-one, ◌+◌, Ok}
-use Rattle.cal_base.specs.declared.value.Store.TheVariants as store
+use Rattle.std.proofs.Common.{◌≡◌, ◌∙◌, ap, sym, arith, length, add-one}
 use Rattle.cal_base.specs.Answers.{all_of}
 use Rattle.cal_base.specs.After.{after}
 use Rattle.cal_base.specs.Stores.{memory_in}
 use Rattle.csl_meaning.specs.Routines.{answers}
-use Rattle.csl_meaning.specs.Meaning.{open_step}
-use Rattle.csl_meaning.specs.Runs.{Gives}
-use Rattle.tree_eval.specs.Told.{Told}
 use Rattle.tree_eval.proofs.Telling.{step_done, answers_few}
 use Rattle.tree_eval.proofs.step.step.Goals as goal
 

@@ -1,17 +1,17 @@
 use Rattle.std.proofs.Common.{rules, arith, ◌∙◌, ◌-◌, Ok, Err}
-use Rattle.tree_eval.proofs.Equations.{stops_first, gives_first, value_unary, value_binary, value_paren, read_scalar, read_item, result_is, appends_first, changed_scalar, changed_item_of, sets_stop, sets_next, sets_alone, value_appended, value_stops, next_item}
+use Rattle.tree_eval.proofs.Equations.{stops_first, gives_first, value_unary, value_binary, value_paren, read_item, result_is, appends_first, changed_item_of, sets_stop, sets_next, sets_alone, value_appended, value_stops, next_item}
 use Rattle.std.proofs.lemmas.Result.{err_from_is_err_and, IfOk-at_ok}
 use Rattle.tree_eval.specs.Lists.{values_of}
 use Rattle.csl_meaning.specs.Effect.{calls_to}
-use Rattle.tree_eval.proofs.Sizes.{in_unary, in_left, in_right, in_paren, in_read, in_call_of, in_place, in_call, one_value, one_of, in_return, in_call_statement, in_function, in_if, in_while, in_for, in_first, in_assert, in_change_index, in_change_value, in_declare, in_block, one_arm, in_last}
-use Rattle.std.proofs.Common.{sym, ap, subst, ℕ, ◌≤◌, ◌≡◌, ◌+◌, length, Some}
+use Rattle.tree_eval.proofs.Sizes.{in_unary, in_left, in_right, in_paren, in_read, in_call_of, in_place, in_call, one_value, one_of, in_return, in_call_statement, in_function, in_if, in_while, in_for, in_first, in_assert, in_change_index, in_declare, in_block, one_arm, in_last}
+use Rattle.std.proofs.Common.{sym, ap, subst, ◌≤◌, length, Some}
 use Rattle.std.specs.Option.{option_copied}
 use Rattle.csl_meaning.specs.Value.{value_of}
 use Rattle.csl_meaning.specs.Effect.{scoped, statements, nowhere, loop, effect, after_body, step_of}
 use Rattle.csl_meaning.specs.Runs.{◌>>=◌, and_then}
 use Rattle.tree_eval.specs.Follows.{Goes}
 use Rattle.csl_tree.specs.declared.program.Stmt.{Stmt}
-use Rattle.tree_eval.proofs.Loops.{effect_if, effect_while, effect_block, effect_for, step_gave, step_stopped, first_stops, loop_stops, loop_gives, again, test_stops, test_false, turn_stops, turn_gives, to_step, step_stops, unit_stops, unit_taken}
+use Rattle.tree_eval.proofs.Loops.{effect_if, effect_while, effect_block, effect_for, first_stops, loop_stops, loop_gives, again, test_stops, test_false, turn_stops, turn_gives, to_step, step_stops, unit_stops, unit_taken}
 use Rattle.tree_eval.proofs.Calls.{too_deep, no_function, body_stops, body_gives, found, found_none, begun, run_on}
 use Rattle.tree_eval.proofs.stmt.+eval.Goals as goal
 

@@ -1,11 +1,11 @@
-use Rattle.std.proofs.Common.{◌≡◌, ◌≤◌, ℕ, ◌+◌, ◌*◌, suc, drop, ◌++◌}
+use Rattle.std.proofs.Common.{◌≡◌, ◌≤◌, ℕ, ◌+◌, suc, drop, ◌++◌}
 use Rattle.csl_meaning.specs.Value as spec
 use Rattle.csl_meaning.specs.Effect as effects
 use Rattle.csl_meaning.specs.Runs.{◌>>=◌, pure}
 use Rattle.std.specs.Option.{option_copied}
 use Rattle.tree_eval.specs.Lists.{values_of, chosen, last_block}
 use Rattle.tree_eval.specs.Follows.{stays}
-use Rattle.tree_eval.proofs.Sizes.{measure, form_weight, body_weight, expr_weight, row_weight, arms_list_weight, last_body_weight, step_weight, node_weight, place_weight, call_weight, values_weight}
+use Rattle.tree_eval.proofs.Sizes.{measure, form_weight, body_weight, expr_weight, arms_list_weight, last_body_weight, step_weight, node_weight, place_weight, call_weight, values_weight}
 use Rattle.tree_eval.proofs.stmt.+eval.Given as goal
 
 abbrev pub decreases-value : goal.decreases-value
