@@ -1,0 +1,13 @@
+pub mod Equations
+pub mod Sizes
+pub mod Words
+pub mod Calls
+pub mod Loops
+pub mod Routines
+pub mod Searching
+pub mod Merging
+pub mod Installing
+pub mod Lines
+pub mod Telling
+pub mod Mains
+pub mod Starting

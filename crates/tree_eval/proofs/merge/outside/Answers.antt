@@ -1,0 +1,10 @@
+use Rattle.std.proofs.Common.{sym, ◌∙◌, arith}
+use Rattle.tree_eval.proofs.Merging.{outside_found, outside_none}
+use Rattle.tree_eval.proofs.merge.outside.Goals as goal
+
+pub returns-then-is_outside_at : goal.returns-then-is_outside_at
+returns-then-is_outside_at c =
+    outside_found c.args.memory.now c.args.laid.now c.loop-a.a (omega arith) c.loop-a.invariant (sym c.is_outside_at.ensures ∙ c.if-is_outside_at.true)
+
+pub returns : goal.returns
+returns c = outside_none c.args.memory.now c.args.laid.now c.loop-a.a (omega arith) c.loop-a.invariant

@@ -1,0 +1,26 @@
+use Rattle.std.proofs.Common.{◌≡◌, ◌∙◌, ap, sym, arith, length, add-one}
+use Rattle.cal_base.specs.Answers.{all_of}
+use Rattle.cal_base.specs.After.{after}
+use Rattle.cal_base.specs.Stores.{memory_in}
+use Rattle.csl_meaning.specs.Routines.{answers}
+use Rattle.tree_eval.proofs.Telling.{step_done, answers_few}
+use Rattle.tree_eval.proofs.step.step.Goals as goal
+
+pub merge-requires-clause-numbers : goal.merge-requires-clause-numbers
+merge-requires-clause-numbers c =
+    omega (arith, ap length (c.as_slice.ensures ∙ c.in_ok-memory.ensures.answers), answers_few c.args.p.now c.memory_in-opening.result c.args.fuel c.args.blocks.now c.args.widths.now, c.requires.few)
+
+pub returns-in-Ok-clause-tells : goal.returns-in-Ok-clause-tells
+returns-in-Ok-clause-tells c = λ text.
+    let opening_is : c.memory_in-opening.result ≡ memory_in c.args.world.now.store = c.memory_in-opening.ensures ∙ ap memory_in c.replace.ensures.value in
+    let memory_is = sym (c.in_ok-memory.ensures.memory ∙ opening_is) in
+    let answers_are = sym (c.as_slice.ensures ∙ c.in_ok-memory.ensures.answers ∙ ap (λ x. all_of (answers c.args.p.now x c.args.fuel c.args.blocks.now c.args.widths.now)) opening_is) in
+    rw add-one (step_done c.args.p.now c.args.fuel c.args.blocks.now c.args.widths.now c.args.world.now c.merge.new.memory text ((λ i. after (memory_is i) (answers_are i)) ∙ c.in-Ok.ensures.merged))
+
+pub returns-in-Ok-clause-goes_on : goal.returns-in-Ok-clause-goes_on
+returns-in-Ok-clause-goes_on c =
+    let opening_is : c.memory_in-opening.result ≡ memory_in c.args.world.now.store = c.memory_in-opening.ensures ∙ ap memory_in c.replace.ensures.value in
+    record {
+      main = record { words = omega (arith, c.merge.ensures.words, ap length (c.in_ok-memory.ensures.memory ∙ opening_is), c.requires.words); steps = omega (arith, c.requires.steps) };
+      fuel = omega arith;
+    }

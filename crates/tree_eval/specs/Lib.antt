@@ -1,0 +1,15 @@
+pub mod Follows
+pub mod Lists
+pub mod Sums
+pub mod Fits
+pub mod Changes
+pub mod Finished
+pub mod Merged
+pub mod Told
+pub mod Worlds
+pub mod Pieces
+pub mod Widths
+pub mod Ready
+pub mod Printed
+pub mod Initial
+pub mod Ends
