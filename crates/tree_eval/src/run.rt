@@ -19,10 +19,12 @@ use csl_tree::program::Program;
 use sqlite_items::Items;
 use std::alloc::Global;
 
-/// Why an evaluation gave up.
+/// Why an evaluation gave up; a front of the text was written.
 #[derive(Clone, Copy, PartialEq, Eq, Debug)]
 pub enum EvalError {
+    /// The sink failed, and its count of faults rose.
     OutFailed,
+    /// An allocation failed.
     NoMemory,
 }
 
@@ -38,7 +40,8 @@ fn run_end(went: Result<Ending, MainHalt>, steps: u64) -> Result<RunEnd, EvalErr
     }
 }
 
-/// Runs a program with this much fuel, and writes the lines that it prints. The words of its declarations are at most 262,144.
+/// Runs a program on one thread with this many units of fuel, and appends the lines that it prints. The words of its
+/// declarations are at most 262,144. Answers how the run ended, or `OutFailed` or `NoMemory`; see `docs/PROMISES.md`.
 pub fn eval<S: Sink>(
     alloc: Global,
     p: &Program,
