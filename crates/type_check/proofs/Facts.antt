@@ -47,7 +47,7 @@ module _ (p : Program) (accepted : IsAccepted p) where
   pub accepted-count : length p.functions ≤ most_functions
   accepted-count =
       let few = within most_functions (map (λ f. f.name.at) p.functions)
-        (none_in_second (shared_faults [] p.shared ++ word_faults 0 p.shared ++ all_function_faults (with_shared [] p.shared) p.functions) (beyond most_functions (map (λ f. f.name.at) p.functions)) before-main) in
+      (none_in_second (shared_faults [] p.shared ++ word_faults 0 p.shared ++ all_function_faults (with_shared [] p.shared) p.functions) (beyond most_functions (map (λ f. f.name.at) p.functions)) before-main) in
       rw (← length-map p.functions (λ f. f.name.at)) few
 
 module _ (globals : Names) (f : Function) (rest : List Function) (none : all_function_faults globals (f ∷ rest) ≡ []) where
@@ -73,10 +73,10 @@ module _ (names : Names) (f : Function) (none : inside_faults names f ≡ []) wh
   pub function-params : length f.params ≤ most_params
   function-params =
       let few = within most_params (map (λ q. q.name.at) f.params)
-        (none_in_second (param_faults names f.params) (beyond most_params (map (λ q. q.name.at) f.params))
-        (none_in_first (param_faults names f.params ++ beyond most_params (map (λ q. q.name.at) f.params)) (body_faults names (body.Function f.gives) (with_params names f.params) f.body)
-        (none_in_first (param_faults names f.params ++ beyond most_params (map (λ q. q.name.at) f.params) ++ body_faults names (body.Function f.gives) (with_params names f.params) f.body) (too_many_locals (map (λ q. q.name) f.params ++ locals_in (form.Block f.body)))
-        (none_in_first (param_faults names f.params ++ beyond most_params (map (λ q. q.name.at) f.params) ++ body_faults names (body.Function f.gives) (with_params names f.params) f.body ++ too_many_locals (map (λ q. q.name) f.params ++ locals_in (form.Block f.body))) (fault_if (gives_value f.gives && not (ends (form.Block f.body))) NoReturn f.name.at) none)))) in
+      (none_in_second (param_faults names f.params) (beyond most_params (map (λ q. q.name.at) f.params))
+      (none_in_first (param_faults names f.params ++ beyond most_params (map (λ q. q.name.at) f.params)) (body_faults names (body.Function f.gives) (with_params names f.params) f.body)
+      (none_in_first (param_faults names f.params ++ beyond most_params (map (λ q. q.name.at) f.params) ++ body_faults names (body.Function f.gives) (with_params names f.params) f.body) (too_many_locals (map (λ q. q.name) f.params ++ locals_in (form.Block f.body)))
+      (none_in_first (param_faults names f.params ++ beyond most_params (map (λ q. q.name.at) f.params) ++ body_faults names (body.Function f.gives) (with_params names f.params) f.body ++ too_many_locals (map (λ q. q.name) f.params ++ locals_in (form.Block f.body))) (fault_if (gives_value f.gives && not (ends (form.Block f.body))) NoReturn f.name.at) none)))) in
       rw (← length-map f.params (λ q. q.name.at)) few
 
   -- and its body ends where it has a result
