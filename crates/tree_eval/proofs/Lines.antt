@@ -11,7 +11,8 @@ use Rattle.csl_meaning.specs.Locals.{Locals}
 use Rattle.csl_meaning.specs.Operators.{number_in}
 use Rattle.csl_meaning.specs.Runs.{Outcome, Gives, Stops, ShowsLine, OpensStep, Run, and_then, ◌>>=◌, pure}
 use Rattle.csl_meaning.specs.Value.{Calls, value_of}
-use Rattle.csl_meaning.specs.Meaning.{pieces, widths_of, shown}
+use Rattle.cal_base.specs.Printing.{shown}
+use Rattle.csl_meaning.specs.Meaning.{pieces, widths_of}
 use Rattle.tree_eval.specs.declared.halt.Halt.{Halt}
 use Rattle.tree_eval.specs.declared.halt.Halt.TheVariants.{Cause, NoMemory}
 use Rattle.tree_eval.specs.Follows.{Follows, AppendsAll}

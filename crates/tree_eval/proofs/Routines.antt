@@ -1,6 +1,7 @@
 -- What a routine leaves, and the answers of a step.
 use Rattle.std.proofs.Common.{◌≡◌, ℕ, suc, ◌+◌, ◌-◌, ◌<◌, pos, map, drop, List, [], ◌∷◌, ◌++◌, Option, Some, Result, Ok, Err, refl, sym, ap, ◌∙◌, subst, arith, append_assoc, append-nil}
 use Rattle.std.specs.Prelude.{IfOk}
+use Rattle.std.specs.List.{range_with_len}
 use Rattle.std.specs.FinMap.{empty}
 use Rattle.csl_tree.specs.declared.program.Program.{Program}
 use Rattle.csl_tree.specs.declared.program.Stmt.{Stmt}
@@ -17,7 +18,7 @@ use Rattle.csl_meaning.specs.declared.state.World.{World}
 use Rattle.csl_meaning.specs.Locals.{Locals, bound}
 use Rattle.csl_meaning.specs.Runs.{Outcome, Run}
 use Rattle.csl_meaning.specs.Effect.{Went, statements, calls_to, most_levels, nowhere}
-use Rattle.csl_meaning.specs.Routines.{answer, answers, answer_by, opening_world, counted}
+use Rattle.csl_meaning.specs.Routines.{answer, answers, answered, opening_world}
 use Rattle.tree_eval.specs.declared.halt.Halt.{Halt}
 use Rattle.tree_eval.specs.declared.halt.Halt.TheVariants.{Cause, NoMemory}
 use Rattle.tree_eval.specs.Follows.{Goes, opening_of}
@@ -35,15 +36,15 @@ same_opening went w opening is = by_store went w.store is
     by_store (Err NoMemory) s e' = tt
 
 -- the answer, by the world's store
-given_answer : (o : Outcome Went) (went : Result Ending Halt) (l : Locals) (w : World) → Goes o went l w → IfOk (finished went w.store) (λ r. r.1 ≡ answer_by o)
-given_answer o (Ok e) l w g = sym (ap answer_by g)
-given_answer o (Err (Cause c)) l w g = sym (ap answer_by g)
+given_answer : (o : Outcome Went) (went : Result Ending Halt) (l : Locals) (w : World) → Goes o went l w → IfOk (finished went w.store) (λ r. r.1 ≡ answered o)
+given_answer o (Ok e) l w g = sym (ap answered g)
+given_answer o (Err (Cause c)) l w g = sym (ap answered g)
 given_answer o (Err NoMemory) l w g = tt
 
-answer_is : (p : Program) (opening : Memory) (fuel : ℕ) (b : RoutineBlock) (width id : ℕ) → answer p opening fuel b width id ≡ answer_by (statements p (calls_to p most_levels) nowhere (out-RoutineBlock b).body (bound ((out-RoutineBlock b).width_name.text ∷ (out-RoutineBlock b).id_name.text ∷ []) (val.Int (pos width) ∷ val.Int (pos id) ∷ [])) (opening_world opening fuel))
+answer_is : (p : Program) (opening : Memory) (fuel : ℕ) (b : RoutineBlock) (width id : ℕ) → answer p opening fuel b width id ≡ answered (statements p (calls_to p most_levels) nowhere (out-RoutineBlock b).body (bound ((out-RoutineBlock b).width_name.text ∷ (out-RoutineBlock b).id_name.text ∷ []) (val.Int (pos width) ∷ val.Int (pos id) ∷ [])) (opening_world opening fuel))
 answer_is p opening fuel b width id =
     ap (λ x. answer p opening fuel x width id) (is-RoutineBlock' b)
-    ∙ ap (λ (f : Locals → Run Went). answer_by (f (bound ((out-RoutineBlock b).width_name.text ∷ (out-RoutineBlock b).id_name.text ∷ []) (val.Int (pos width) ∷ val.Int (pos id) ∷ [])) (opening_world opening fuel))) (in_order_is p (calls_to p most_levels) nowhere (out-RoutineBlock b).body)
+    ∙ ap (λ (f : Locals → Run Went). answered (f (bound ((out-RoutineBlock b).width_name.text ∷ (out-RoutineBlock b).id_name.text ∷ []) (val.Int (pos width) ∷ val.Int (pos id) ∷ [])) (opening_world opening fuel))) (in_order_is p (calls_to p most_levels) nowhere (out-RoutineBlock b).body)
 
 pub right_answer : (p : Program) (opening : Memory) (fuel : ℕ) (b : RoutineBlock) (width id : ℕ) (body : List Stmt) (begun l : Locals) (written : Written) (went : Result Ending Halt) (w : World)
     → body ≡ (out-RoutineBlock b).body → begun ≡ bound ((out-RoutineBlock b).width_name.text ∷ (out-RoutineBlock b).id_name.text ∷ []) (val.Int (pos width) ∷ val.Int (pos id) ∷ [])
@@ -55,13 +56,13 @@ right_answer p opening fuel b width id body begun l written went w same begins g
     ∙ ap (λ x. statements p (calls_to p most_levels) nowhere x begun (opening_world opening fuel)) same
     ∙ ap (λ x. statements p (calls_to p most_levels) nowhere (out-RoutineBlock b).body x (opening_world opening fuel)) begins in
     subst (λ a. IfOk (finished went w.store) (λ r. r.1 ≡ a)) (sym (answer_is p opening fuel b width id))
-    (subst (λ (a : Outcome Went). IfOk (finished went w.store) (λ r. r.1 ≡ answer_by a)) is (given_answer o went l w g))
+    (subst (λ (a : Outcome Went). IfOk (finished went w.store) (λ r. r.1 ≡ answered a)) is (given_answer o went l w g))
 
 -- ---- the answers of a block, one after the other
 
 module _ (f : ℕ → Answer) where
   abbrev pub block_from : ℕ → ℕ → List (Option Answer)
-  block_from id n = all_of (map f (counted id n))
+  block_from id n = all_of (map f (range_with_len id n))
 
   -- one answer more
   pub one_more : (before : List (Option Answer)) (width id : ℕ) → id < width → (before ++ Some (f id) ∷ []) ++ block_from (id + 1) (width - (id + 1)) ≡ before ++ block_from id (width - id)
@@ -81,10 +82,10 @@ all_append (x ∷ xs) ys = ap (λ r. Some x ∷ r) (all_append xs ys)
 module _ (p : Program) (memory : Memory) (fuel : ℕ) where
   -- the answers of one block
   abbrev pub of_block : RoutineBlock → ℕ → List (Option Answer)
-  of_block b w = all_of (map (λ id. answer p memory fuel b w id) (counted 0 w))
+  of_block b w = all_of (map (λ id. answer p memory fuel b w id) (range_with_len 0 w))
 
   block_first : (b : RoutineBlock) (blocks : List RoutineBlock) (w : ℕ) (widths : List ℕ) → of_block b w ++ all_of (answers p memory fuel blocks widths) ≡ all_of (answers p memory fuel (b ∷ blocks) (w ∷ widths))
-  block_first b blocks w widths = sym (all_append (map (λ id. answer p memory fuel b w id) (counted 0 w)) (answers p memory fuel blocks widths))
+  block_first b blocks w widths = sym (all_append (map (λ id. answer p memory fuel b w id) (range_with_len 0 w)) (answers p memory fuel blocks widths))
 
   -- one block more
   pub block_more : (before : List (Option Answer)) (blocks : List RoutineBlock) (widths : List ℕ) (i : ℕ) (b : RoutineBlock) (w : ℕ) → drop i blocks ≡ b ∷ drop (i + 1) blocks → drop i widths ≡ w ∷ drop (i + 1) widths

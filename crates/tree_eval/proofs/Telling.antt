@@ -1,10 +1,10 @@
 -- What main tells, one part after the other.
-use Rattle.std.proofs.Common.{◌≡◌, ℕ, ℤ, Bool, true, cond, suc, zero, ◌+◌, ◌≤◌, length, take, map, sum, List, [], ◌∷◌, ◌++◌, Option, Some, None, Ok, Err, refl, sym, ap, ◌∙◌, subst, arith, append_assoc, length-append, false}
+use Rattle.std.proofs.Common.{◌≡◌, ℕ, ℤ, suc, ◌+◌, ◌≤◌, length, take, map, sum, List, [], ◌∷◌, ◌++◌, Option, Some, None, Ok, Err, refl, sym, ap, ◌∙◌, subst, arith, append_assoc, length-append, false}
 use Rattle.std.specs.Io.{StartsWith}
-use Rattle.std.specs.Prelude.{nat_le}
-use Rattle.std.specs.List.{fold}
+use Rattle.std.specs.List.{fold, range_with_len}
 use Rattle.std.specs.Io.KnownBytes.{Appends}
 use Rattle.std.proofs.KnownBytes.{Appends-nil, Appends-trans}
+use Rattle.std.proofs.lemmas.List.FromFn.{length-map-range_with_len}
 use Rattle.cal_base.specs.declared.ends.RunEnd.{RunEnd}
 use Rattle.cal_base.specs.declared.ends.Cause.TheVariants.{BadWidth}
 use Rattle.cal_base.specs.declared.ends.RunEnd.TheVariants.{StepFailed}
@@ -23,16 +23,17 @@ use Rattle.csl_tree.specs.declared.program.RoutineBlock.{RoutineBlock}
 use Rattle.csl_meaning.specs.declared.state.World.{World}
 use Rattle.csl_meaning.specs.declared.state.Ending.TheVariants as ending
 use Rattle.csl_meaning.specs.Locals.{Locals}
-use Rattle.csl_meaning.specs.Runs.{Outcome, Gives, Stops, ShowsLine, OpensStep, Run, and_then, ◌>>=◌, ◌>>◌, pure, stop, take_unit}
+use Rattle.csl_meaning.specs.Runs.{Outcome, Gives, Stops, ShowsLine, OpensStep, Run, and_then, ◌>>=◌, ◌>>◌, pure, take_unit}
 use Rattle.csl_meaning.specs.Effect.{Went, Stepping, Printing, calls_to, most_levels}
-use Rattle.csl_meaning.specs.Routines.{answers, counted, answer}
-use Rattle.csl_meaning.specs.Meaning.{open_step, in_main, widths_of, good_widths, naturals, pieces, show, line_of, most_routines}
+use Rattle.csl_meaning.specs.Routines.{answers, answer}
+use Rattle.cal_base.specs.Printing.{line_of}
+use Rattle.cal_base.specs.Widths.{step_widths}
+use Rattle.csl_meaning.specs.Meaning.{open_step, in_main, widths_of, good_widths, pieces, show}
 use Rattle.tree_eval.specs.declared.halt.Halt.{Halt}
 use Rattle.tree_eval.specs.declared.halt.Halt.TheVariants.{Cause, NoMemory}
 use Rattle.tree_eval.specs.declared.main_halt.MainHalt.{MainHalt}
 use Rattle.tree_eval.specs.declared.main_halt.MainHalt.TheVariants as halt
 use Rattle.tree_eval.specs.Follows.{Follows, Goes, AppendsAll}
-use Rattle.tree_eval.specs.Widths.{good}
 use Rattle.tree_eval.specs.Ready.{ready_widths}
 use Rattle.tree_eval.specs.Told.{continued, text_by, end_by, Told, Finishes, ToldSome, TellsOf, Tells, TellsLocals, main_halt}
 use Rattle.tree_eval.proofs.Lines.{bind_assoc, appended_whole}
@@ -166,10 +167,6 @@ follows_stop o h m w old e is = subst (λ x. TellsOf o (Err x) w old old) (sym i
 
 -- ---- steps
 
-counted_length : (from n : ℕ) → length (counted from n) ≡ n
-counted_length from zero = refl
-counted_length from (suc n) = ap suc (counted_length (from + 1) n)
-
 map_length : {A B : Type 0} (f : A → B) (xs : List A) → length (map f xs) ≡ length xs
 map_length f [] = refl
 map_length f (x ∷ xs) = ap suc (map_length f xs)
@@ -214,8 +211,8 @@ answers_few p memory fuel (b ∷ blocks) [] = omega arith
 answers_few p memory fuel (b ∷ blocks) (n ∷ widths) =
     let rest = answers_few p memory fuel blocks widths in
     let f = λ (id : ℕ). answer p memory fuel b n id in
-    let one : length (map f (counted 0 n)) ≡ n = map_length f (counted 0 n) ∙ counted_length 0 n in
-    omega (arith, rest, one, sum_cons n widths, map_length (λ (a : Answer). Some a) (map f (counted 0 n) ++ answers p memory fuel blocks widths), map_length (λ (a : Answer). Some a) (answers p memory fuel blocks widths), length-append (map f (counted 0 n)) (answers p memory fuel blocks widths))
+    let one : length (map f (range_with_len 0 n)) ≡ n = length-map-range_with_len f 0 n in
+    omega (arith, rest, one, sum_cons n widths, map_length (λ (a : Answer). Some a) (map f (range_with_len 0 n) ++ answers p memory fuel blocks widths), map_length (λ (a : Answer). Some a) (answers p memory fuel blocks widths), length-append (map f (range_with_len 0 n)) (answers p memory fuel blocks widths))
 
 -- a `parbegin`: what comes before the step, and the step
 module _ (p : Program) (fuel : ℕ) (blocks : List RoutineBlock) (locals : Locals) (w : World) where
@@ -227,8 +224,8 @@ module _ (p : Program) (fuel : ℕ) (blocks : List RoutineBlock) (locals : Local
 
   pub par_is : in_main p fuel (Stepping blocks) locals w ≡ and_then (ready_widths p locals blocks w) step_and_on
   par_is =
-      sym (bind_assoc (widths_of p (calls_to p most_levels) locals blocks w) (λ ns. good_widths (naturals ns) >>= (λ ws. take_unit >> pure ws)) step_and_on
-      ∙ (λ i. and_then (widths_of p (calls_to p most_levels) locals blocks w) (λ ns v. tested (naturals ns) v i)))
+      sym (bind_assoc (widths_of p (calls_to p most_levels) locals blocks w) (λ ns. good_widths (step_widths ns) >>= (λ ws. take_unit >> pure ws)) step_and_on
+      ∙ (λ i. and_then (widths_of p (calls_to p most_levels) locals blocks w) (λ ns v. tested (step_widths ns) v i)))
 
   pub par_stops : (h : Halt) (m : MainHalt) (w' : World) (old : Option (List ℕ)) → Follows (ready_widths p locals blocks w) (Err h) w' → m ≡ main_halt h w'.steps → Tells (in_main p fuel (Stepping blocks) locals w) (Err m) locals w' old old
   par_stops h m w' old follows is =
@@ -257,37 +254,27 @@ module _ (p : Program) (fuel : ℕ) (blocks : List RoutineBlock) (locals : Local
   abbrev run : Run (List ℤ)
   run = widths_of p (calls_to p most_levels) locals blocks
 
-  good_none : (o : Option (List ℕ)) (w1 : World) → None ≡ good o → good_widths o w1 ≡ Stops BadWidth w1
-  good_none None w1 e = refl
-  good_none (Some ns) w1 e = by_test (nat_le (sum ns) most_routines) e
-    where
-      by_test : (b : Bool) → None ≡ cond b (Some ns) None → cond b (pure ns) (stop BadWidth) w1 ≡ Stops BadWidth w1
-      by_test true e' = cc
-      by_test false e' = refl
+  good_none : (o : Option (List ℕ)) (w1 : World) → None ≡ o → good_widths o w1 ≡ Stops BadWidth w1
+  good_none o w1 e = sym (ap (λ x. good_widths x w1) e)
 
-  good_some : (o : Option (List ℕ)) (ws : List ℕ) (w1 : World) → Some ws ≡ good o → good_widths o w1 ≡ Gives ws w1
-  good_some None ws w1 e = cc
-  good_some (Some ns) ws w1 e = by_test (nat_le (sum ns) most_routines) e
-    where
-      by_test : (b : Bool) → Some ws ≡ cond b (Some ns) None → cond b (pure ns) (stop BadWidth) w1 ≡ Gives ws w1
-      by_test true e' = let same : ws ≡ ns = cc in ap (λ l. Gives l w1) (sym same)
-      by_test false e' = cc
+  good_some : (o : Option (List ℕ)) (ws : List ℕ) (w1 : World) → Some ws ≡ o → good_widths o w1 ≡ Gives ws w1
+  good_some o ws w1 e = sym (ap (λ x. good_widths x w1) e)
 
-  pub ready_none : (before numbers shown : List ℤ) (w1 : World) → before ≡ [] → AppendsAll run before w (Ok tt) numbers w1 → shown ≡ numbers → None ≡ good (naturals shown) → ready_widths p locals blocks w ≡ Stops BadWidth w1
+  pub ready_none : (before numbers shown : List ℤ) (w1 : World) → before ≡ [] → AppendsAll run before w (Ok tt) numbers w1 → shown ≡ numbers → None ≡ step_widths shown → ready_widths p locals blocks w ≡ Stops BadWidth w1
   ready_none before numbers shown w1 none a same e =
-      ap (λ o. and_then o (λ ns. good_widths (naturals ns) >>= (λ ws. take_unit >> pure ws))) (appended_whole run before numbers w w1 (Ok tt) none a refl)
-      ∙ ap (λ o. and_then o (λ ws. take_unit >> pure ws)) (good_none (naturals numbers) w1 (e ∙ ap (λ ns. good (naturals ns)) same))
+      ap (λ o. and_then o (λ ns. good_widths (step_widths ns) >>= (λ ws. take_unit >> pure ws))) (appended_whole run before numbers w w1 (Ok tt) none a refl)
+      ∙ ap (λ o. and_then o (λ ws. take_unit >> pure ws)) (good_none (step_widths numbers) w1 (e ∙ ap step_widths same))
 
-  ready_some : (before numbers shown : List ℤ) (ws : List ℕ) (w1 : World) → before ≡ [] → AppendsAll run before w (Ok tt) numbers w1 → shown ≡ numbers → Some ws ≡ good (naturals shown) → ready_widths p locals blocks w ≡ and_then (take_unit w1) (λ _. pure ws)
+  ready_some : (before numbers shown : List ℤ) (ws : List ℕ) (w1 : World) → before ≡ [] → AppendsAll run before w (Ok tt) numbers w1 → shown ≡ numbers → Some ws ≡ step_widths shown → ready_widths p locals blocks w ≡ and_then (take_unit w1) (λ _. pure ws)
   ready_some before numbers shown ws w1 none a same e =
-      ap (λ o. and_then o (λ ns. good_widths (naturals ns) >>= (λ ws. take_unit >> pure ws))) (appended_whole run before numbers w w1 (Ok tt) none a refl)
-      ∙ ap (λ o. and_then o (λ ws. take_unit >> pure ws)) (good_some (naturals numbers) ws w1 (e ∙ ap (λ ns. good (naturals ns)) same))
+      ap (λ o. and_then o (λ ns. good_widths (step_widths ns) >>= (λ ws. take_unit >> pure ws))) (appended_whole run before numbers w w1 (Ok tt) none a refl)
+      ∙ ap (λ o. and_then o (λ ws. take_unit >> pure ws)) (good_some (step_widths numbers) ws w1 (e ∙ ap step_widths same))
 
-  pub ready_stops : (before numbers shown : List ℤ) (ws : List ℕ) (w1 w2 : World) (h : Halt) → before ≡ [] → AppendsAll run before w (Ok tt) numbers w1 → shown ≡ numbers → Some ws ≡ good (naturals shown) → Follows (take_unit w1) (Err h) w2 → Follows (ready_widths p locals blocks w) (Err h) w2
+  pub ready_stops : (before numbers shown : List ℤ) (ws : List ℕ) (w1 w2 : World) (h : Halt) → before ≡ [] → AppendsAll run before w (Ok tt) numbers w1 → shown ≡ numbers → Some ws ≡ step_widths shown → Follows (take_unit w1) (Err h) w2 → Follows (ready_widths p locals blocks w) (Err h) w2
   ready_stops before numbers shown ws w1 w2 NoMemory none a same e f = tt
   ready_stops before numbers shown ws w1 w2 (Cause c) none a same e f = ready_some before numbers shown ws w1 none a same e ∙ ap (λ o. and_then o (λ _. pure ws)) f
 
-  pub ready_gives : (before numbers shown : List ℤ) (ws : List ℕ) (w1 w2 : World) → before ≡ [] → AppendsAll run before w (Ok tt) numbers w1 → shown ≡ numbers → Some ws ≡ good (naturals shown) → take_unit w1 ≡ Gives tt w2 → ready_widths p locals blocks w ≡ Gives ws w2
+  pub ready_gives : (before numbers shown : List ℤ) (ws : List ℕ) (w1 w2 : World) → before ≡ [] → AppendsAll run before w (Ok tt) numbers w1 → shown ≡ numbers → Some ws ≡ step_widths shown → take_unit w1 ≡ Gives tt w2 → ready_widths p locals blocks w ≡ Gives ws w2
   ready_gives before numbers shown ws w1 w2 none a same e f = ready_some before numbers shown ws w1 none a same e ∙ ap (λ o. and_then o (λ _. pure ws)) f
 
 -- a `print`

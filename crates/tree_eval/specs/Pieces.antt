@@ -6,7 +6,7 @@ use Rattle.csl_tree.specs.declared.program.Item.TheVariants as item
 use Rattle.csl_meaning.specs.Locals.{Locals}
 use Rattle.csl_meaning.specs.Runs.{Run, ◌>>=◌, pure}
 use Rattle.csl_meaning.specs.Value.{Calls, value_of}
-use Rattle.csl_meaning.specs.Meaning.{shown}
+use Rattle.cal_base.specs.Printing.{shown}
 
 -- the text of a printed item
 abbrev pub piece_of : Program → Calls → Locals → Item → Run (List ℕ)

@@ -7,7 +7,8 @@ use Rattle.csl_meaning.specs.declared.state.World.{World}
 use Rattle.csl_meaning.specs.Locals.{Locals}
 use Rattle.csl_meaning.specs.Runs.{Gives}
 use Rattle.csl_meaning.specs.Effect.{calls_to, most_levels}
-use Rattle.csl_meaning.specs.Meaning.{pieces, line_of}
+use Rattle.cal_base.specs.Printing.{line_of}
+use Rattle.csl_meaning.specs.Meaning.{pieces}
 use Rattle.tree_eval.specs.declared.main_halt.MainHalt.{MainHalt}
 use Rattle.tree_eval.specs.Told.{TellsOf}
 

@@ -1,6 +1,7 @@
 //! The lines that main prints.
 
 ghost use Rattle.std.specs.Prelude.{◌≡◌, ◌≤◌, ◌++◌, IfOk, OnOk};
+ghost use Rattle.cal_base.specs.Printing as printing;
 ghost use Rattle.csl_meaning.specs.Effect.{calls_to, most_levels};
 ghost use Rattle.csl_meaning.specs.Meaning as meaning;
 ghost use Rattle.tree_eval.specs.Fits.{FitsMemory};
@@ -19,7 +20,7 @@ use std::alloc::Global;
 
 /// A value as it is printed: a number in decimal, or `true` or `false`.
 fn shown(alloc: Global, value: Val) -> Result<Text, NoMemory>
-    ensures { IfOk result (λ text. text ≡ meaning.shown value) }
+    ensures { IfOk result (λ text. text ≡ printing.shown value) }
 {
     match value {
         Val::Int(number) => {
@@ -87,7 +88,7 @@ fn add_piece(line: &mut Vec<u8>, text: &Text, last: bool) -> Result<(), NoMemory
 
 /// The pieces of a line with one blank between, and a line feed at the end.
 pub fn line_of(alloc: Global, texts: &[Text]) -> Result<Vec<u8>, NoMemory>
-    ensures { IfOk result (λ line. line.items ≡ meaning.line_of texts.now) }
+    ensures { IfOk result (λ line. line.items ≡ printing.line_of texts.now) }
 {
     let mut line = Vec::new(alloc);
     for (i, text) in texts.iter().enumerate() {

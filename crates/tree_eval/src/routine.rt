@@ -1,6 +1,7 @@
 //! What the routines of a step answer.
 
 ghost use Rattle.std.specs.Prelude.{◌≡◌, ◌++◌, IfOk, OnOk, map, pos};
+ghost use Rattle.std.specs.List.{range_with_len};
 ghost use Rattle.cal_base.specs.Answers.{all_of};
 ghost use Rattle.csl_meaning.specs.Routines as routines;
 ghost use Rattle.tree_eval.specs.Finished.{finished};
@@ -83,7 +84,7 @@ fn block_answers(
 ) -> Result<Items<Word>, NoMemory>
     requires { FitsMemory p.now.shared }
     ensures memory { IfOk result (λ memory. memory ≡ opening) }
-    ensures answers { OnOk result (answers.new ≡ answers.old ++ all_of (map (λ id. routines.answer p.now opening fuel block.now width id) (routines.counted 0 width))) }
+    ensures answers { OnOk result (answers.new ≡ answers.old ++ all_of (map (λ id. routines.answer p.now opening fuel block.now width id) (range_with_len 0 width))) }
 {
     let mut memory = opening;
     for id in 0..width {

@@ -1,11 +1,12 @@
 //! The widths of a step's blocks.
 
 ghost use Rattle.std.specs.Prelude.{◌≡◌, ◌≤◌, IfOk};
+ghost use Rattle.cal_base.specs.Widths.{step_widths};
 ghost use Rattle.csl_meaning.specs.Effect.{calls_to, most_levels};
 ghost use Rattle.csl_meaning.specs.Meaning as meaning;
 ghost use Rattle.tree_eval.specs.Fits.{FitsMemory};
 ghost use Rattle.tree_eval.specs.Follows.{AppendsAll, stays};
-ghost use Rattle.tree_eval.specs.Widths.{good, small_number};
+ghost use Rattle.tree_eval.specs.Widths.{small_number};
 
 use crate::halt::Halt;
 use crate::operators::number_in;
@@ -50,7 +51,7 @@ fn small(number: i64) -> Option<u32>
 
 /// The widths, unless one is negative or there are more than 65,536 routines.
 pub fn good_widths(alloc: Global, numbers: &[i64]) -> Result<Option<Items<u32>>, NoMemory>
-    ensures { IfOk result (λ widths. widths ≡ good (meaning.naturals numbers.now)) }
+    ensures { IfOk result (λ widths. widths ≡ step_widths numbers.now) }
 {
     let mut widths = Items::new(alloc);
     let mut total = 0u32;

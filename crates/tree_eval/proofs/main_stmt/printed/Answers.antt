@@ -1,6 +1,7 @@
 use Rattle.std.proofs.Common.{◌∙◌, ap, refl, Ok}
 use Rattle.csl_meaning.specs.Effect.{calls_to, most_levels}
-use Rattle.csl_meaning.specs.Meaning.{pieces, line_of}
+use Rattle.cal_base.specs.Printing.{line_of}
+use Rattle.csl_meaning.specs.Meaning.{pieces}
 use Rattle.tree_eval.proofs.Lines.{appended_whole}
 use Rattle.tree_eval.proofs.main_stmt.printed.Goals as goal
 
