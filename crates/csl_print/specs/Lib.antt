@@ -1,0 +1,3 @@
+pub mod TreeTokens
+pub mod Canonical
+pub mod Rows

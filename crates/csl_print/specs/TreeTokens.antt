@@ -1,0 +1,232 @@
+-- The tokens of a tree, in order.
+use Rattle.std.specs.Prelude.{ℤ, pos, negsuc, suc, Bool, true, false, List, [], ◌∷◌, ◌++◌, Option, Some, None}
+use Rattle.cal_base.specs.declared.step.WordKind.{WordKind}
+use Rattle.cal_base.specs.declared.step.WordKind.TheVariants as words
+use Rattle.csl_tree.specs.declared.name.Name.{Name}
+use Rattle.csl_tree.specs.declared.token.TokenKind.{TokenKind}
+use Rattle.csl_tree.specs.declared.token.TokenKind.TheVariants as kind
+use Rattle.csl_tree.specs.declared.token.Keyword.{Keyword}
+use Rattle.csl_tree.specs.declared.token.Keyword.TheVariants as keyword
+use Rattle.csl_tree.specs.declared.token.Mark.{Mark}
+use Rattle.csl_tree.specs.declared.token.Mark.TheVariants.{OpenBrace, CloseBrace, OpenParen, CloseParen, OpenBracket, CloseBracket, Comma, Semicolon, Assign, AddAssign, Minus}
+use Rattle.csl_tree.specs.declared.program.ArraySize.{ArraySize}
+use Rattle.csl_tree.specs.declared.program.Valued.{Valued}
+use Rattle.csl_tree.specs.declared.program.Shared.{Shared}
+use Rattle.csl_tree.specs.declared.program.Param.{Param}
+use Rattle.csl_tree.specs.declared.program.Function.{Function}
+use Rattle.csl_tree.specs.declared.program.Program.{Program}
+use Rattle.csl_tree.specs.declared.program.Expr.{Expr}
+use Rattle.csl_tree.specs.declared.program.Node as tree
+use Rattle.csl_tree.specs.declared.program.Node.{Node, Row_of-Expr, end_of-Expr, more_of-Expr}
+use Rattle.csl_tree.specs.declared.program.Place.{Place, Place', None', Some'}
+use Rattle.csl_tree.specs.declared.program.Call.{Call, Call'}
+use Rattle.csl_tree.specs.declared.program.Item.{Item}
+use Rattle.csl_tree.specs.declared.program.Item.TheVariants as item
+use Rattle.csl_tree.specs.declared.program.Stmt.{Stmt}
+use Rattle.csl_tree.specs.declared.program.Arm.{Arm'}
+use Rattle.csl_tree.specs.declared.program.RoutineBlock.{RoutineBlock'}
+use Rattle.csl_tree.specs.declared.program.Form as form
+use Rattle.csl_tree.specs.declared.program.Form.{Form, Row_of-Arm, end_of-Arm, more_of-Arm, Row_of-Stmt, end_of-Stmt, more_of-Stmt, Held-Form-If-1, Row_of-RoutineBlock, end_of-RoutineBlock, more_of-RoutineBlock}
+use Rattle.csl_grammar.specs.Expressions.{mark_of, prefix_mark, truth_word}
+use Rattle.csl_grammar.specs.Programs.{type_word, result_word}
+
+-- ---- one token
+
+abbrev pub mark : Mark → List TokenKind
+mark m = kind.Mark m ∷ []
+
+abbrev pub word : Keyword → List TokenKind
+word w = kind.Word w ∷ []
+
+abbrev pub named : Name → List TokenKind
+named name = kind.Named name ∷ []
+
+abbrev pub number : ℤ → List TokenKind
+number z = kind.Number z ∷ []
+
+abbrev pub quoted : Name → List TokenKind
+quoted text = kind.Text text ∷ []
+
+-- ---- lists
+
+-- the tokens of each part in turn
+abbrev pub each : {T : Type 0} → (T → List TokenKind) → List T → List TokenKind
+each tokens [] = []
+each tokens (x ∷ rest) = tokens x ++ each tokens rest
+
+-- the tokens of each further part, a comma before each
+abbrev pub further : {T : Type 0} → (T → List TokenKind) → List T → List TokenKind
+further tokens [] = []
+further tokens (x ∷ rest) = mark Comma ++ tokens x ++ further tokens rest
+
+-- the tokens of each part, with commas between
+abbrev pub separated : {T : Type 0} → (T → List TokenKind) → List T → List TokenKind
+separated tokens [] = []
+separated tokens (x ∷ rest) = tokens x ++ further tokens rest
+
+-- tokens between braces
+abbrev pub braced : List TokenKind → List TokenKind
+braced inner = mark OpenBrace ++ inner ++ mark CloseBrace
+
+-- ---- expressions
+
+abbrev mutual
+  pub node_tokens : Node → List TokenKind
+  node_tokens (tree.Number z) = number z
+  node_tokens (tree.Truth b) = word (truth_word b)
+  node_tokens (tree.Read place) = place_tokens place
+  node_tokens (tree.CallOf call) = call_tokens call
+  node_tokens (tree.Unary' op shape a) = mark (prefix_mark op) ++ boxed_tokens a
+  node_tokens (tree.Binary' op shape a shape' b) = boxed_tokens a ++ mark (mark_of op) ++ boxed_tokens b
+  node_tokens (tree.Paren' shape a) = mark OpenParen ++ boxed_tokens a ++ mark CloseParen
+
+  -- a name, and the index of an array's element
+  pub place_tokens : Place → List TokenKind
+  place_tokens (Place' name None') = named name
+  place_tokens (Place' name (Some' shape i)) = named name ++ mark OpenBracket ++ boxed_tokens i ++ mark CloseBracket
+
+  -- a name, and the arguments in parentheses
+  pub call_tokens : Call → List TokenKind
+  call_tokens (Call' name shape args) = named name ++ mark OpenParen ++ row_tokens args ++ mark CloseParen
+
+  -- the expression in a box; no box is empty
+  pub boxed_tokens : {n : _} → Row_of-Expr n → List TokenKind
+  boxed_tokens end_of-Expr = []
+  boxed_tokens (more_of-Expr at node rest) = node_tokens node
+
+  -- several expressions, with commas between
+  pub row_tokens : {n : _} → Row_of-Expr n → List TokenKind
+  row_tokens end_of-Expr = []
+  row_tokens (more_of-Expr at node rest) = node_tokens node ++ further_tokens rest
+
+  -- further expressions, a comma before each
+  pub further_tokens : {n : _} → Row_of-Expr n → List TokenKind
+  further_tokens end_of-Expr = []
+  further_tokens (more_of-Expr at node rest) = mark Comma ++ node_tokens node ++ further_tokens rest
+
+abbrev pub expr_tokens : Expr → List TokenKind
+expr_tokens e = node_tokens e.node
+
+-- an expression, if one stands there
+abbrev pub given_tokens : Option Expr → List TokenKind
+given_tokens None = []
+given_tokens (Some e) = expr_tokens e
+
+-- an item of a `print`
+abbrev pub item_tokens : Item → List TokenKind
+item_tokens (item.Text text) = quoted text
+item_tokens (item.Value e) = expr_tokens e
+
+-- ---- statements
+
+-- the semicolon behind a statement, where it does not end with a block
+abbrev pub ending : Form → List TokenKind
+ending (form.If' shape arms last) = []
+ending (form.While' test shape body) = []
+ending (form.For' shape first test shape' next shape'' body) = []
+ending (form.Block' shape body) = []
+ending _ = mark Semicolon
+
+abbrev mutual
+  -- a statement but for the semicolon behind it
+  pub form_tokens : Form → List TokenKind
+  form_tokens (form.Declare ty name value) = word (type_word ty) ++ named name ++ mark Assign ++ expr_tokens value
+  form_tokens (form.Set place value) = place_tokens place ++ mark Assign ++ expr_tokens value
+  form_tokens (form.AddTo place value) = place_tokens place ++ mark AddAssign ++ expr_tokens value
+  form_tokens (form.If' shape arms last) = arms_tokens arms ++ last_tokens last
+  form_tokens (form.While' test shape body) =
+      word keyword.While ++ mark OpenParen ++ expr_tokens test ++ mark CloseParen ++ braced (statements_tokens body)
+  form_tokens (form.For' shape first test shape' next shape'' body) =
+      word keyword.For ++ mark OpenParen ++ part_tokens first ++ mark Semicolon ++ expr_tokens test ++ mark Semicolon ++ part_tokens next ++ mark CloseParen ++ braced (statements_tokens body)
+  form_tokens form.Break = word keyword.Break
+  form_tokens form.Continue = word keyword.Continue
+  form_tokens (form.Return given) = word keyword.Return ++ given_tokens given
+  form_tokens (form.CallOf call) = call_tokens call
+  form_tokens (form.Assert e) = word keyword.Assert ++ mark OpenParen ++ expr_tokens e ++ mark CloseParen
+  form_tokens (form.Block' shape body) = braced (statements_tokens body)
+  form_tokens (form.Print items) = word keyword.Print ++ mark OpenParen ++ separated item_tokens items ++ mark CloseParen
+  form_tokens (form.Par' shape blocks) = word keyword.Parbegin ++ routines_tokens blocks ++ word keyword.Parend
+
+  -- statements in turn
+  pub statements_tokens : {n : _} → Row_of-Stmt n → List TokenKind
+  statements_tokens end_of-Stmt = []
+  statements_tokens (more_of-Stmt at form rest) = form_tokens form ++ ending form ++ statements_tokens rest
+
+  -- the first or last part of a `for`, which has no semicolon of its own
+  pub part_tokens : {n : _} → Row_of-Stmt n → List TokenKind
+  part_tokens end_of-Stmt = []
+  part_tokens (more_of-Stmt at form rest) = form_tokens form
+
+  -- the arms of an `if`
+  pub arms_tokens : {n : _} → Row_of-Arm n → List TokenKind
+  arms_tokens end_of-Arm = []
+  arms_tokens (more_of-Arm (Arm' test shape body) rest) =
+      word keyword.If ++ mark OpenParen ++ expr_tokens test ++ mark CloseParen ++ braced (statements_tokens body) ++ further_arms_tokens rest
+
+  -- the further arms of an `if`, `else` before each
+  pub further_arms_tokens : {n : _} → Row_of-Arm n → List TokenKind
+  further_arms_tokens end_of-Arm = []
+  further_arms_tokens (more_of-Arm (Arm' test shape body) rest) =
+      word keyword.Else ++ word keyword.If ++ mark OpenParen ++ expr_tokens test ++ mark CloseParen ++ braced (statements_tokens body) ++ further_arms_tokens rest
+
+  -- the last block of an `if`, if it has one
+  pub last_tokens : Held-Form-If-1 → List TokenKind
+  last_tokens form.None' = []
+  last_tokens (form.Some' shape body) = word keyword.Else ++ braced (statements_tokens body)
+
+  -- the routine blocks of a step
+  pub routines_tokens : {n : _} → Row_of-RoutineBlock n → List TokenKind
+  routines_tokens end_of-RoutineBlock = []
+  routines_tokens (more_of-RoutineBlock (RoutineBlock' at width width_name id_name shape body) rest) =
+      word keyword.Routine ++ mark OpenBracket ++ expr_tokens width ++ mark CloseBracket
+      ++ mark OpenParen ++ word keyword.Int ++ named width_name ++ mark Comma ++ word keyword.Int ++ named id_name ++ mark CloseParen
+      ++ braced (statements_tokens body) ++ routines_tokens rest
+
+abbrev pub statement_tokens : Stmt → List TokenKind
+statement_tokens s = form_tokens s.form ++ ending s.form
+
+-- a list of statements between braces
+abbrev pub body_tokens : List Stmt → List TokenKind
+body_tokens body = braced (each statement_tokens body)
+
+-- ---- shared declarations
+
+-- a number with its sign apart
+abbrev pub signed_tokens : ℤ → List TokenKind
+signed_tokens (pos n) = number (pos n)
+signed_tokens (negsuc n) = mark Minus ++ number (pos (suc n))
+
+-- an initial value
+abbrev pub value_tokens : Valued → List TokenKind
+value_tokens v = signed_tokens v.number
+
+abbrev pub kind_tokens : WordKind → List TokenKind
+kind_tokens words.Ordinary = word keyword.Int
+kind_tokens words.Tally = word keyword.Tally ++ word keyword.Int
+
+abbrev pub size_tokens : Option ArraySize → List TokenKind
+size_tokens None = []
+size_tokens (Some size) = mark OpenBracket ++ number size.number ++ mark CloseBracket
+
+-- the initial values, if they are listed
+abbrev pub initial_tokens : Bool → List Valued → List TokenKind
+initial_tokens false values = []
+initial_tokens true values = mark Assign ++ mark OpenBrace ++ separated value_tokens values ++ mark CloseBrace
+
+abbrev pub shared_tokens : Shared → List TokenKind
+shared_tokens s = kind_tokens s.kind ++ named s.name ++ size_tokens s.size ++ initial_tokens s.listed s.values ++ mark Semicolon
+
+-- ---- functions, programs
+
+abbrev pub param_tokens : Param → List TokenKind
+param_tokens p = word (type_word p.ty) ++ named p.name
+
+abbrev pub function_tokens : Function → List TokenKind
+function_tokens f = word (result_word f.gives) ++ named f.name ++ mark OpenParen ++ separated param_tokens f.params ++ mark CloseParen ++ body_tokens f.body
+
+-- the tokens of a program, but for the end
+unfoldable pub tokens_of : Program → List TokenKind
+tokens_of p =
+    word keyword.Shared ++ mark OpenBrace ++ each shared_tokens p.shared ++ mark CloseBrace
+    ++ each function_tokens p.functions
+    ++ word keyword.Main ++ body_tokens p.main

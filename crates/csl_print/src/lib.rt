@@ -1,0 +1,6 @@
+//! The canonical text of a program.
+#![tactic(auto)]
+
+mod turn;
+
+pub mod rows;
