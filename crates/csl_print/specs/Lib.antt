@@ -1,3 +1,4 @@
 pub mod TreeTokens
 pub mod Canonical
 pub mod Rows
+pub mod Layout

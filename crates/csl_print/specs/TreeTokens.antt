@@ -23,8 +23,8 @@ use Rattle.csl_tree.specs.declared.program.Call.{Call, Call'}
 use Rattle.csl_tree.specs.declared.program.Item.{Item}
 use Rattle.csl_tree.specs.declared.program.Item.TheVariants as item
 use Rattle.csl_tree.specs.declared.program.Stmt.{Stmt}
-use Rattle.csl_tree.specs.declared.program.Arm.{Arm'}
-use Rattle.csl_tree.specs.declared.program.RoutineBlock.{RoutineBlock'}
+use Rattle.csl_tree.specs.declared.program.Arm.{Arm, Arm', out-Arm}
+use Rattle.csl_tree.specs.declared.program.RoutineBlock.{RoutineBlock, RoutineBlock', out-RoutineBlock}
 use Rattle.csl_tree.specs.declared.program.Form as form
 use Rattle.csl_tree.specs.declared.program.Form.{Form, Row_of-Arm, end_of-Arm, more_of-Arm, Row_of-Stmt, end_of-Stmt, more_of-Stmt, Held-Form-If-1, Row_of-RoutineBlock, end_of-RoutineBlock, more_of-RoutineBlock}
 use Rattle.csl_grammar.specs.Expressions.{mark_of, prefix_mark, truth_word}
@@ -54,19 +54,27 @@ abbrev pub each : {T : Type 0} → (T → List TokenKind) → List T → List To
 each tokens [] = []
 each tokens (x ∷ rest) = tokens x ++ each tokens rest
 
--- the tokens of each further part, a comma before each
-abbrev pub further : {T : Type 0} → (T → List TokenKind) → List T → List TokenKind
-further tokens [] = []
-further tokens (x ∷ rest) = mark Comma ++ tokens x ++ further tokens rest
+-- the tokens of each further part, the same tokens before each
+abbrev pub further : {T : Type 0} → List TokenKind → (T → List TokenKind) → List T → List TokenKind
+further between tokens [] = []
+further between tokens (x ∷ rest) = between ++ tokens x ++ further between tokens rest
+
+-- the tokens of each part, with the same tokens between
+abbrev pub parted : {T : Type 0} → List TokenKind → (T → List TokenKind) → List T → List TokenKind
+parted between tokens [] = []
+parted between tokens (x ∷ rest) = tokens x ++ further between tokens rest
 
 -- the tokens of each part, with commas between
 abbrev pub separated : {T : Type 0} → (T → List TokenKind) → List T → List TokenKind
-separated tokens [] = []
-separated tokens (x ∷ rest) = tokens x ++ further tokens rest
+separated tokens xs = parted (mark Comma) tokens xs
 
--- tokens between braces
-abbrev pub braced : List TokenKind → List TokenKind
-braced inner = mark OpenBrace ++ inner ++ mark CloseBrace
+-- tokens in parentheses
+abbrev pub in_parens : List TokenKind → List TokenKind
+in_parens inner = mark OpenParen ++ inner ++ mark CloseParen
+
+-- tokens in braces
+abbrev pub in_braces : List TokenKind → List TokenKind
+in_braces inner = mark OpenBrace ++ inner ++ mark CloseBrace
 
 -- ---- expressions
 
@@ -78,7 +86,7 @@ abbrev mutual
   node_tokens (tree.CallOf call) = call_tokens call
   node_tokens (tree.Unary' op shape a) = mark (prefix_mark op) ++ boxed_tokens a
   node_tokens (tree.Binary' op shape a shape' b) = boxed_tokens a ++ mark (mark_of op) ++ boxed_tokens b
-  node_tokens (tree.Paren' shape a) = mark OpenParen ++ boxed_tokens a ++ mark CloseParen
+  node_tokens (tree.Paren' shape a) = in_parens (boxed_tokens a)
 
   -- a name, and the index of an array's element
   pub place_tokens : Place → List TokenKind
@@ -87,7 +95,7 @@ abbrev mutual
 
   -- a name, and the arguments in parentheses
   pub call_tokens : Call → List TokenKind
-  call_tokens (Call' name shape args) = named name ++ mark OpenParen ++ row_tokens args ++ mark CloseParen
+  call_tokens (Call' name shape args) = named name ++ in_parens (row_tokens args)
 
   -- the expression in a box; no box is empty
   pub boxed_tokens : {n : _} → Row_of-Expr n → List TokenKind
@@ -119,6 +127,20 @@ item_tokens (item.Value e) = expr_tokens e
 
 -- ---- statements
 
+-- an arm of an `if`: its test, and the tokens of its statements
+abbrev pub arm_of : Expr → List TokenKind → List TokenKind
+arm_of test inner = word keyword.If ++ in_parens (expr_tokens test) ++ in_braces inner
+
+-- the width and the two parameters of a routine block
+abbrev pub heading : Expr → Name → Name → List TokenKind
+heading width width_name id_name =
+    mark OpenBracket ++ expr_tokens width ++ mark CloseBracket
+    ++ in_parens (word keyword.Int ++ named width_name ++ mark Comma ++ word keyword.Int ++ named id_name)
+
+-- a routine block, and the tokens of its statements
+abbrev pub routine_of : Expr → Name → Name → List TokenKind → List TokenKind
+routine_of width width_name id_name inner = word keyword.Routine ++ heading width width_name id_name ++ in_braces inner
+
 -- the semicolon behind a statement, where it does not end with a block
 abbrev pub ending : Form → List TokenKind
 ending (form.If' shape arms last) = []
@@ -135,16 +157,18 @@ abbrev mutual
   form_tokens (form.AddTo place value) = place_tokens place ++ mark AddAssign ++ expr_tokens value
   form_tokens (form.If' shape arms last) = arms_tokens arms ++ last_tokens last
   form_tokens (form.While' test shape body) =
-      word keyword.While ++ mark OpenParen ++ expr_tokens test ++ mark CloseParen ++ braced (statements_tokens body)
+      word keyword.While ++ in_parens (expr_tokens test) ++ in_braces (statements_tokens body)
   form_tokens (form.For' shape first test shape' next shape'' body) =
-      word keyword.For ++ mark OpenParen ++ part_tokens first ++ mark Semicolon ++ expr_tokens test ++ mark Semicolon ++ part_tokens next ++ mark CloseParen ++ braced (statements_tokens body)
+      word keyword.For
+      ++ in_parens (part_tokens first ++ mark Semicolon ++ expr_tokens test ++ mark Semicolon ++ part_tokens next)
+      ++ in_braces (statements_tokens body)
   form_tokens form.Break = word keyword.Break
   form_tokens form.Continue = word keyword.Continue
   form_tokens (form.Return given) = word keyword.Return ++ given_tokens given
   form_tokens (form.CallOf call) = call_tokens call
-  form_tokens (form.Assert e) = word keyword.Assert ++ mark OpenParen ++ expr_tokens e ++ mark CloseParen
-  form_tokens (form.Block' shape body) = braced (statements_tokens body)
-  form_tokens (form.Print items) = word keyword.Print ++ mark OpenParen ++ separated item_tokens items ++ mark CloseParen
+  form_tokens (form.Assert e) = word keyword.Assert ++ in_parens (expr_tokens e)
+  form_tokens (form.Block' shape body) = in_braces (statements_tokens body)
+  form_tokens (form.Print items) = word keyword.Print ++ in_parens (separated item_tokens items)
   form_tokens (form.Par' shape blocks) = word keyword.Parbegin ++ routines_tokens blocks ++ word keyword.Parend
 
   -- statements in turn
@@ -161,33 +185,37 @@ abbrev mutual
   pub arms_tokens : {n : _} → Row_of-Arm n → List TokenKind
   arms_tokens end_of-Arm = []
   arms_tokens (more_of-Arm (Arm' test shape body) rest) =
-      word keyword.If ++ mark OpenParen ++ expr_tokens test ++ mark CloseParen ++ braced (statements_tokens body) ++ further_arms_tokens rest
+      arm_of test (statements_tokens body) ++ further_arms_tokens rest
 
   -- the further arms of an `if`, `else` before each
   pub further_arms_tokens : {n : _} → Row_of-Arm n → List TokenKind
   further_arms_tokens end_of-Arm = []
   further_arms_tokens (more_of-Arm (Arm' test shape body) rest) =
-      word keyword.Else ++ word keyword.If ++ mark OpenParen ++ expr_tokens test ++ mark CloseParen ++ braced (statements_tokens body) ++ further_arms_tokens rest
+      word keyword.Else ++ arm_of test (statements_tokens body) ++ further_arms_tokens rest
 
   -- the last block of an `if`, if it has one
   pub last_tokens : Held-Form-If-1 → List TokenKind
   last_tokens form.None' = []
-  last_tokens (form.Some' shape body) = word keyword.Else ++ braced (statements_tokens body)
+  last_tokens (form.Some' shape body) = word keyword.Else ++ in_braces (statements_tokens body)
 
   -- the routine blocks of a step
   pub routines_tokens : {n : _} → Row_of-RoutineBlock n → List TokenKind
   routines_tokens end_of-RoutineBlock = []
   routines_tokens (more_of-RoutineBlock (RoutineBlock' at width width_name id_name shape body) rest) =
-      word keyword.Routine ++ mark OpenBracket ++ expr_tokens width ++ mark CloseBracket
-      ++ mark OpenParen ++ word keyword.Int ++ named width_name ++ mark Comma ++ word keyword.Int ++ named id_name ++ mark CloseParen
-      ++ braced (statements_tokens body) ++ routines_tokens rest
+      routine_of width width_name id_name (statements_tokens body) ++ routines_tokens rest
 
 abbrev pub statement_tokens : Stmt → List TokenKind
 statement_tokens s = form_tokens s.form ++ ending s.form
 
--- a list of statements between braces
+-- a list of statements in braces
 abbrev pub body_tokens : List Stmt → List TokenKind
-body_tokens body = braced (each statement_tokens body)
+body_tokens body = in_braces (each statement_tokens body)
+
+abbrev pub arm_tokens : Arm → List TokenKind
+arm_tokens a = arm_of (out-Arm a).test (each statement_tokens (out-Arm a).body)
+
+abbrev pub routine_tokens : RoutineBlock → List TokenKind
+routine_tokens r = routine_of (out-RoutineBlock r).width (out-RoutineBlock r).width_name (out-RoutineBlock r).id_name (each statement_tokens (out-RoutineBlock r).body)
 
 -- ---- shared declarations
 
@@ -211,7 +239,7 @@ size_tokens (Some size) = mark OpenBracket ++ number size.number ++ mark CloseBr
 -- the initial values, if they are listed
 abbrev pub initial_tokens : Bool → List Valued → List TokenKind
 initial_tokens false values = []
-initial_tokens true values = mark Assign ++ mark OpenBrace ++ separated value_tokens values ++ mark CloseBrace
+initial_tokens true values = mark Assign ++ in_braces (separated value_tokens values)
 
 abbrev pub shared_tokens : Shared → List TokenKind
 shared_tokens s = kind_tokens s.kind ++ named s.name ++ size_tokens s.size ++ initial_tokens s.listed s.values ++ mark Semicolon
@@ -222,11 +250,11 @@ abbrev pub param_tokens : Param → List TokenKind
 param_tokens p = word (type_word p.ty) ++ named p.name
 
 abbrev pub function_tokens : Function → List TokenKind
-function_tokens f = word (result_word f.gives) ++ named f.name ++ mark OpenParen ++ separated param_tokens f.params ++ mark CloseParen ++ body_tokens f.body
+function_tokens f = word (result_word f.gives) ++ named f.name ++ in_parens (separated param_tokens f.params) ++ body_tokens f.body
 
 -- the tokens of a program, but for the end
 unfoldable pub tokens_of : Program → List TokenKind
 tokens_of p =
-    word keyword.Shared ++ mark OpenBrace ++ each shared_tokens p.shared ++ mark CloseBrace
+    word keyword.Shared ++ in_braces (each shared_tokens p.shared)
     ++ each function_tokens p.functions
     ++ word keyword.Main ++ body_tokens p.main
