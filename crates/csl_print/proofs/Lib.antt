@@ -1,3 +1,4 @@
 mod Examples
 mod Layouts
 mod Trees
+mod Whole

@@ -1,8 +1,7 @@
 -- The tokens of trees at the tree's own constructors.
-use Rattle.std.proofs.Common.{◌≡◌, List, [], ◌∷◌, ◌++◌, Option, Some, None, refl, sym, ap, ◌∙◌}
+use Rattle.std.proofs.Common.{◌≡◌, List, [], ◌∷◌, ◌++◌, Option, Some, None, refl, ap, ◌∙◌}
 use denote.Hole.Carrier.{hidden}
-use Rattle.csl_tree.specs.declared.token.TokenKind.{TokenKind}
-use Rattle.csl_tree.specs.declared.token.Mark.TheVariants.{OpenBracket, CloseBracket}
+use Rattle.csl_tree.specs.declared.token.Mark.TheVariants.{OpenBracket, CloseBracket, Comma, Semicolon}
 use Rattle.csl_tree.specs.declared.program.Expr.{Expr}
 use Rattle.csl_tree.specs.declared.program.UnaryOp.{UnaryOp}
 use Rattle.csl_tree.specs.declared.program.BinaryOp.{BinaryOp}
@@ -11,9 +10,15 @@ use Rattle.csl_tree.specs.declared.program.Node.TheVariants as node
 use Rattle.csl_tree.specs.declared.program.Node.TheBlock.{shape-the_row-Expr-0, hidden-the_row-Expr-0, shape-the_row-Expr-1, hidden-the_row-Expr-1, back-Place-index}
 use Rattle.csl_tree.specs.declared.program.Place.{Place, Place', out-Place, is-Place'}
 use Rattle.csl_tree.specs.declared.program.Call.{Call, out-Call, is-Call'}
+use Rattle.csl_tree.specs.declared.program.Stmt.{Stmt}
+use Rattle.csl_tree.specs.declared.program.Arm.{Arm, out-Arm, is-Arm'}
+use Rattle.csl_tree.specs.declared.program.RoutineBlock.{RoutineBlock, out-RoutineBlock, is-RoutineBlock'}
+use Rattle.csl_tree.specs.declared.program.Form.{Form, more_of-Arm, more_of-RoutineBlock}
+use Rattle.csl_tree.specs.declared.program.Form.TheVariants as form
+use Rattle.csl_tree.specs.declared.program.Form.TheBlock.{shape-the_row-Stmt-1, hidden-the_row-Stmt-1, shape-the_row-Stmt-2, hidden-the_row-Stmt-2, shape-the_row-Arm-0, hidden-the_row-Arm-0, shape-the_row-RoutineBlock-3, hidden-the_row-RoutineBlock-3}
+use Rattle.csl_tree.specs.declared.token.Keyword.TheVariants as keyword
 use Rattle.csl_grammar.specs.Expressions.{mark_of, prefix_mark}
-use Rattle.csl_print.specs.TreeTokens.{mark, named, in_parens, separated, further, node_tokens, expr_tokens, place_tokens, call_tokens, row_tokens, further_tokens}
-use Rattle.csl_tree.specs.declared.token.Mark.TheVariants.{Comma}
+use Rattle.csl_print.specs.TreeTokens.{mark, named, in_parens, separated, further, node_tokens, expr_tokens, place_tokens, call_tokens, row_tokens, further_tokens, word, each, parted, in_braces, form_tokens, statements_tokens, statement_tokens, body_tokens, arm_of, arm_tokens, arms_tokens, further_arms_tokens, routine_of, routine_tokens, routines_tokens}
 
 pub tokens_unary : (n : Node) (op : UnaryOp) (a : Expr) → n ≡ node.Unary op a → node_tokens n ≡ mark (prefix_mark op) ++ expr_tokens a
 unfolding shape-the_row-Expr-0 hidden-the_row-Expr-0 hidden
@@ -43,3 +48,67 @@ arguments_is (e ∷ rest) = ap (λ r. expr_tokens e ++ r) (further_is rest)
 
 pub tokens_call : (q : Call) → call_tokens q ≡ named (out-Call q).name ++ in_parens (separated expr_tokens (out-Call q).args)
 tokens_call q = ap call_tokens (is-Call' q) ∙ ap (λ r. named (out-Call q).name ++ in_parens r) (arguments_is (out-Call q).args)
+
+-- ---- statements
+
+-- the statements of a row are those of its list
+statements_is : (body : List Stmt) → statements_tokens (hidden-the_row-Stmt-1 body) ≡ each statement_tokens body
+unfolding shape-the_row-Stmt-1 hidden-the_row-Stmt-1 hidden
+statements_is [] = refl
+statements_is (s ∷ rest) = ap (λ r. statement_tokens s ++ r) (statements_is rest)
+
+pub tokens_block : (f : Form) (body : List Stmt) → f ≡ form.Block body → form_tokens f ≡ body_tokens body
+tokens_block f body e = ap form_tokens e ∙ ap in_braces (statements_is body)
+
+pub tokens_while : (f : Form) (test : Expr) (body : List Stmt) → f ≡ form.While test body → form_tokens f ≡ word keyword.While ++ in_parens (expr_tokens test) ++ body_tokens body
+tokens_while f test body e = ap form_tokens e ∙ ap (λ r. word keyword.While ++ in_parens (expr_tokens test) ++ in_braces r) (statements_is body)
+
+pub tokens_for : (f : Form) (first : Stmt) (test : Expr) (next : Stmt) (body : List Stmt) → f ≡ form.For first test next body
+    → form_tokens f ≡ word keyword.For ++ in_parens (form_tokens first.form ++ mark Semicolon ++ expr_tokens test ++ mark Semicolon ++ form_tokens next.form) ++ body_tokens body
+unfolding shape-the_row-Stmt-2 hidden-the_row-Stmt-2 hidden
+tokens_for f first test next body e =
+    ap form_tokens e
+    ∙ ap (λ r. word keyword.For ++ in_parens (form_tokens first.form ++ mark Semicolon ++ expr_tokens test ++ mark Semicolon ++ form_tokens next.form) ++ in_braces r) (statements_is body)
+
+arm_is : (a : Arm) → arm_of (out-Arm a).test (statements_tokens (hidden-the_row-Stmt-1 (out-Arm a).body)) ≡ arm_tokens a
+arm_is a = ap (λ r. arm_of (out-Arm a).test r) (statements_is (out-Arm a).body)
+
+further_arms_is : (arms : List Arm) → further_arms_tokens (hidden-the_row-Arm-0 arms) ≡ further (word keyword.Else) arm_tokens arms
+unfolding shape-the_row-Arm-0 hidden-the_row-Arm-0 hidden
+further_arms_is [] = refl
+further_arms_is (a ∷ rest) =
+    ap (λ x. further_arms_tokens (more_of-Arm x (hidden-the_row-Arm-0 rest))) (is-Arm' a)
+    ∙ (λ i. word keyword.Else ++ arm_is a i ++ further_arms_is rest i)
+
+arms_is : (arms : List Arm) → arms_tokens (hidden-the_row-Arm-0 arms) ≡ parted (word keyword.Else) arm_tokens arms
+unfolding shape-the_row-Arm-0 hidden-the_row-Arm-0 hidden
+arms_is [] = refl
+arms_is (a ∷ rest) =
+    ap (λ x. arms_tokens (more_of-Arm x (hidden-the_row-Arm-0 rest))) (is-Arm' a)
+    ∙ (λ i. arm_is a i ++ further_arms_is rest i)
+
+append_none : {X : Type 0} (xs : List X) → xs ++ [] ≡ xs
+append_none [] = refl
+append_none (x ∷ xs) = ap (λ r. x ∷ r) (append_none xs)
+
+pub tokens_if_none : (f : Form) (arms : List Arm) (last : Option (List Stmt)) → f ≡ form.If arms last → last ≡ None → form_tokens f ≡ parted (word keyword.Else) arm_tokens arms
+tokens_if_none f arms last e none = ap form_tokens e ∙ ap (λ l. form_tokens (form.If arms l)) none ∙ append_none _ ∙ arms_is arms
+
+pub tokens_if_some : (f : Form) (arms : List Arm) (last : Option (List Stmt)) (body : List Stmt) → f ≡ form.If arms last → last ≡ Some body
+    → form_tokens f ≡ parted (word keyword.Else) arm_tokens arms ++ (word keyword.Else ++ body_tokens body)
+tokens_if_some f arms last body e some =
+    ap form_tokens e ∙ ap (λ l. form_tokens (form.If arms l)) some
+    ∙ (λ i. arms_is arms i ++ (word keyword.Else ++ in_braces (statements_is body i)))
+
+routine_is : (r : RoutineBlock) → routine_of (out-RoutineBlock r).width (out-RoutineBlock r).width_name (out-RoutineBlock r).id_name (statements_tokens (hidden-the_row-Stmt-1 (out-RoutineBlock r).body)) ≡ routine_tokens r
+routine_is r = ap (λ x. routine_of (out-RoutineBlock r).width (out-RoutineBlock r).width_name (out-RoutineBlock r).id_name x) (statements_is (out-RoutineBlock r).body)
+
+routines_is : (blocks : List RoutineBlock) → routines_tokens (hidden-the_row-RoutineBlock-3 blocks) ≡ each routine_tokens blocks
+unfolding shape-the_row-RoutineBlock-3 hidden-the_row-RoutineBlock-3 hidden
+routines_is [] = refl
+routines_is (r ∷ rest) =
+    ap (λ x. routines_tokens (more_of-RoutineBlock x (hidden-the_row-RoutineBlock-3 rest))) (is-RoutineBlock' r)
+    ∙ (λ i. routine_is r i ++ routines_is rest i)
+
+pub tokens_par : (f : Form) (blocks : List RoutineBlock) → f ≡ form.Par blocks → form_tokens f ≡ word keyword.Parbegin ++ each routine_tokens blocks ++ word keyword.Parend
+tokens_par f blocks e = ap form_tokens e ∙ ap (λ r. word keyword.Parbegin ++ r ++ word keyword.Parend) (routines_is blocks)

@@ -1,5 +1,5 @@
 -- Worked examples: small programs as trees, and the lines of their canonical texts.
-use Rattle.std.specs.Prelude.{◌≡◌, ℕ, pos, negsuc, true, false, List, [], ◌∷◌, ◌++◌, Option, Some, None, codes}
+use Rattle.std.specs.Prelude.{◌≡◌, ℕ, pos, negsuc, true, false, List, [], ◌∷◌, ◌++◌, Some, None, codes}
 use Rattle.cal_base.specs.declared.step.WordKind.TheVariants.{Ordinary}
 use Rattle.csl_tree.specs.declared.name.Name.{Name}
 use Rattle.csl_tree.specs.declared.program.Program.{Program}
@@ -14,7 +14,7 @@ use Rattle.csl_tree.specs.declared.program.Item.TheVariants as item
 use Rattle.csl_tree.specs.declared.program.Stmt.{Stmt}
 use Rattle.csl_tree.specs.declared.program.Form.{Form}
 use Rattle.csl_tree.specs.declared.program.Form.TheVariants as form
-use Rattle.csl_tree.specs.declared.program.RoutineBlock.{RoutineBlock, roll-RoutineBlock}
+use Rattle.csl_tree.specs.declared.program.RoutineBlock.{roll-RoutineBlock}
 use Rattle.csl_tree.specs.declared.program.Arm.{Arm, roll-Arm}
 use Rattle.csl_print.specs.Canonical.{canonical}
 

@@ -1,10 +1,16 @@
 //! The canonical text of a program.
 #![tactic(auto)]
 
+mod decl;
 mod expr;
 mod printer;
+mod program;
+pub mod rows;
 mod spelling;
 mod stmt;
 mod turn;
 
-pub mod rows;
+pub use program::print_program;
+
+#[cfg(test)]
+mod tests;
