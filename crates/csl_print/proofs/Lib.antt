@@ -2,3 +2,17 @@ mod Examples
 mod Layouts
 mod Trees
 mod Whole
+mod Leads
+mod NormalExpr
+mod NormalStmt
+mod NormalProgram
+mod Bares
+mod Moves
+mod MovesProgram
+mod Reduces
+mod Goods
+mod Items
+mod Runs
+mod Written
+mod Pairs
+mod CanonicalLaw

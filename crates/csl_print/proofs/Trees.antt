@@ -1,6 +1,7 @@
 -- The tokens of trees at the tree's own constructors.
-use Rattle.std.proofs.Common.{◌≡◌, List, [], ◌∷◌, ◌++◌, Option, Some, None, refl, ap, ◌∙◌}
-use denote.Hole.Carrier.{hidden}
+use Rattle.std.proofs.Common.{◌≡◌, ℕ, List, [], ◌∷◌, ◌++◌, Option, Some, None, refl, ap, ◌∙◌}
+use denote.Hole.Carrier.{hidden, roll}
+use Rattle.csl_tree.specs.declared.token.TokenKind.{TokenKind}
 use Rattle.csl_tree.specs.declared.token.Mark.TheVariants.{OpenBracket, CloseBracket, Comma, Semicolon}
 use Rattle.csl_tree.specs.declared.program.Expr.{Expr}
 use Rattle.csl_tree.specs.declared.program.UnaryOp.{UnaryOp}
@@ -8,16 +9,18 @@ use Rattle.csl_tree.specs.declared.program.BinaryOp.{BinaryOp}
 use Rattle.csl_tree.specs.declared.program.Node.{Node}
 use Rattle.csl_tree.specs.declared.program.Node.TheVariants as node
 use Rattle.csl_tree.specs.declared.program.Node.TheBlock.{shape-the_row-Expr-0, hidden-the_row-Expr-0, shape-the_row-Expr-1, hidden-the_row-Expr-1, back-Place-index}
-use Rattle.csl_tree.specs.declared.program.Place.{Place, Place', out-Place, is-Place'}
-use Rattle.csl_tree.specs.declared.program.Call.{Call, out-Call, is-Call'}
+use Rattle.csl_tree.specs.declared.program.Place.{Place, roll-Place, Place', out-Place, is-Place'}
+use Rattle.csl_tree.specs.declared.program.Call.{Call, roll-Call, out-Call, is-Call'}
 use Rattle.csl_tree.specs.declared.program.Stmt.{Stmt}
-use Rattle.csl_tree.specs.declared.program.Arm.{Arm, out-Arm, is-Arm'}
-use Rattle.csl_tree.specs.declared.program.RoutineBlock.{RoutineBlock, out-RoutineBlock, is-RoutineBlock'}
+use Rattle.csl_tree.specs.declared.program.Arm.{Arm, out-roll-Arm, out-Arm, is-Arm'}
+use Rattle.csl_tree.specs.declared.program.RoutineBlock.{RoutineBlock, roll-RoutineBlock, out-roll-RoutineBlock, out-RoutineBlock, is-RoutineBlock'}
 use Rattle.csl_tree.specs.declared.program.Form.{Form, more_of-Arm, more_of-RoutineBlock}
 use Rattle.csl_tree.specs.declared.program.Form.TheVariants as form
 use Rattle.csl_tree.specs.declared.program.Form.TheBlock.{shape-the_row-Stmt-1, hidden-the_row-Stmt-1, shape-the_row-Stmt-2, hidden-the_row-Stmt-2, shape-the_row-Arm-0, hidden-the_row-Arm-0, shape-the_row-RoutineBlock-3, hidden-the_row-RoutineBlock-3}
 use Rattle.csl_tree.specs.declared.token.Keyword.TheVariants as keyword
-use Rattle.csl_grammar.specs.Expressions.{mark_of, prefix_mark}
+use Rattle.csl_tree.specs.declared.name.Name.{Name}
+use Rattle.csl_grammar.specs.Expressions.{mark_of, prefix_mark, place, call}
+use Rattle.csl_grammar.specs.Programs.{arm}
 use Rattle.csl_print.specs.TreeTokens.{mark, named, in_parens, separated, further, node_tokens, expr_tokens, place_tokens, call_tokens, row_tokens, further_tokens, word, each, parted, in_braces, form_tokens, statements_tokens, statement_tokens, body_tokens, arm_of, arm_tokens, arms_tokens, further_arms_tokens, routine_of, routine_tokens, routines_tokens}
 
 pub tokens_unary : (n : Node) (op : UnaryOp) (a : Expr) → n ≡ node.Unary op a → node_tokens n ≡ mark (prefix_mark op) ++ expr_tokens a
@@ -52,7 +55,7 @@ tokens_call q = ap call_tokens (is-Call' q) ∙ ap (λ r. named (out-Call q).nam
 -- ---- statements
 
 -- the statements of a row are those of its list
-statements_is : (body : List Stmt) → statements_tokens (hidden-the_row-Stmt-1 body) ≡ each statement_tokens body
+pub statements_is : (body : List Stmt) → statements_tokens (hidden-the_row-Stmt-1 body) ≡ each statement_tokens body
 unfolding shape-the_row-Stmt-1 hidden-the_row-Stmt-1 hidden
 statements_is [] = refl
 statements_is (s ∷ rest) = ap (λ r. statement_tokens s ++ r) (statements_is rest)
@@ -80,14 +83,14 @@ further_arms_is (a ∷ rest) =
     ap (λ x. further_arms_tokens (more_of-Arm x (hidden-the_row-Arm-0 rest))) (is-Arm' a)
     ∙ (λ i. word keyword.Else ++ arm_is a i ++ further_arms_is rest i)
 
-arms_is : (arms : List Arm) → arms_tokens (hidden-the_row-Arm-0 arms) ≡ parted (word keyword.Else) arm_tokens arms
+pub arms_is : (arms : List Arm) → arms_tokens (hidden-the_row-Arm-0 arms) ≡ parted (word keyword.Else) arm_tokens arms
 unfolding shape-the_row-Arm-0 hidden-the_row-Arm-0 hidden
 arms_is [] = refl
 arms_is (a ∷ rest) =
     ap (λ x. arms_tokens (more_of-Arm x (hidden-the_row-Arm-0 rest))) (is-Arm' a)
     ∙ (λ i. arm_is a i ++ further_arms_is rest i)
 
-append_none : {X : Type 0} (xs : List X) → xs ++ [] ≡ xs
+pub append_none : {X : Type 0} (xs : List X) → xs ++ [] ≡ xs
 append_none [] = refl
 append_none (x ∷ xs) = ap (λ r. x ∷ r) (append_none xs)
 
@@ -112,3 +115,32 @@ routines_is (r ∷ rest) =
 
 pub tokens_par : (f : Form) (blocks : List RoutineBlock) → f ≡ form.Par blocks → form_tokens f ≡ word keyword.Parbegin ++ each routine_tokens blocks ++ word keyword.Parend
 tokens_par f blocks e = ap form_tokens e ∙ ap (λ r. word keyword.Parbegin ++ r ++ word keyword.Parend) (routines_is blocks)
+
+-- ---- trees that are made
+
+pub place_name : (name : Name) → place_tokens (place name None) ≡ named name
+unfolding roll-Place hidden roll
+place_name name = refl
+
+pub place_element : (name : Name) (i : Expr) → place_tokens (place name (Some i)) ≡ named name ++ mark OpenBracket ++ expr_tokens i ++ mark CloseBracket
+unfolding shape-the_row-Expr-0 hidden-the_row-Expr-0 roll-Place hidden roll
+place_element name i = refl
+
+pub call_is : (name : Name) (args : List Expr) → call_tokens (call name args) ≡ named name ++ in_parens (separated expr_tokens args)
+unfolding roll-Call hidden roll
+call_is name args = ap (λ r. named name ++ in_parens r) (arguments_is args)
+
+pub arm_made : (test : Expr) (body : List Stmt) → arm_tokens (arm test body) ≡ arm_of test (each statement_tokens body)
+arm_made test body = ap (λ a. arm_of a.test (each statement_tokens a.body)) (out-roll-Arm (record { test = test; body = body }))
+
+pub routine_made : (at : ℕ) (width : Expr) (w i : Name) (body : List Stmt) → routine_tokens (roll-RoutineBlock (record { at = at; width = width; width_name = w; id_name = i; body = body })) ≡ routine_of width w i (each statement_tokens body)
+routine_made at width w i body = ap (λ r. routine_of r.width r.width_name r.id_name (each statement_tokens r.body)) (out-roll-RoutineBlock (record { at = at; width = width; width_name = w; id_name = i; body = body }))
+
+-- an `if` with all its arms
+abbrev pub else_tokens : Option (List Stmt) → List TokenKind
+else_tokens None = []
+else_tokens (Some body) = word keyword.Else ++ body_tokens body
+
+pub tokens_if : (arms : List Arm) (last : Option (List Stmt)) → form_tokens (form.If arms last) ≡ parted (word keyword.Else) arm_tokens arms ++ else_tokens last
+tokens_if arms None = ap (λ r. r ++ []) (arms_is arms)
+tokens_if arms (Some body) = λ i. arms_is arms i ++ (word keyword.Else ++ in_braces (statements_is body i))

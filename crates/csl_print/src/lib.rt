@@ -3,6 +3,7 @@
 
 mod decl;
 mod expr;
+pub mod law;
 mod printer;
 mod program;
 pub mod rows;

@@ -115,11 +115,11 @@ impl Printer {
     }
 
     /// A number that is not negative.
-    pub fn magnitude(&mut self, number: u64) -> Result<(), NoMemory>
-        ensures { OnOk result (self.new ≡ adds self.old (kind.Number (pos number))) }
+    pub fn magnitude(&mut self, size: u64) -> Result<(), NoMemory>
+        ensures { OnOk result (self.new ≡ adds self.old (kind.Number (pos size))) }
     {
         let mut buffer = Buffer::new();
-        self.put(Turn::Stays, buffer.format(number).as_bytes())
+        self.put(Turn::Stays, buffer.format(size).as_bytes())
     }
 
     /// A text between quotes.

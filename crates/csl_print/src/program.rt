@@ -1,6 +1,8 @@
 //! Whole programs.
 
 ghost use Rattle.std.specs.Prelude.{◌≡◌, IfOk, OnOk};
+ghost use Rattle.csl_grammar.specs.Texts.{IsSpelled};
+ghost use Rattle.csl_print.specs.Aside.{SpellsAside};
 ghost use Rattle.csl_print.specs.Canonical.{canonical};
 ghost use Rattle.csl_print.specs.Layout.{adds_all};
 ghost use Rattle.csl_print.specs.TreeTokens.{each, shared_tokens, function_tokens, tokens_of};
@@ -44,11 +46,22 @@ fn print_tokens(out: &mut Printer, p: &Program) -> Result<(), NoMemory>
     print_body(out, p.main.as_slice())
 }
 
-/// The canonical text of a program.
-pub fn print_program(alloc: Global, p: &Program) -> Result<Vec<u8>, NoMemory>
-    ensures canonical { IfOk result (λ text. text.items ≡ canonical p.now) }
+/// The canonical text of any tree.
+pub(crate) fn print_text(alloc: Global, p: &Program) -> Result<Vec<u8>, NoMemory>
+    ensures { IfOk result (λ text. text.items ≡ canonical p.now) }
 {
     let mut out = Printer::new(alloc);
     print_tokens(&mut out, p)?;
     out.finish()
+}
+
+/// The canonical text of a program, which spells it, positions aside.
+///
+/// The text may have more bytes than the longest text of a program.
+pub fn print_program(alloc: Global, p: &Program) -> Result<Vec<u8>, NoMemory>
+    requires { IsSpelled p.now }
+    ensures canonical { IfOk result (λ text. text.items ≡ canonical p.now) }
+    ensures spells { IfOk result (λ text. SpellsAside text.items p.now) }
+{
+    print_text(alloc, p)
 }

@@ -1,4 +1,4 @@
-use super::*;
+use crate::program::print_text;
 use cal_base::WordKind;
 use csl_tree::name::{Name, Text};
 use csl_tree::program::{ArraySize, Expr, Form, Item, Node, Program, Shared, Stmt, Valued};
@@ -49,7 +49,7 @@ fn prints_lines(rt: HostRuntime) -> Result<(), Fail> {
         functions,
         main,
     };
-    let text = print_program(alloc, &program)?;
+    let text = print_text(alloc, &program)?;
     let lines =
         b"shared {\n  int a [ 2 ] = {\n    - 7 }\n  ;\n}\nmain {\n  print ( \"sum\" , ( 12 ) ) ;\n}\n";
     assert_eq!(rt; text.as_slice(), lines.as_slice());

@@ -81,12 +81,12 @@ pub fn enclosed(turn: Turn, parens: usize) -> usize
 }
 
 /// How many steps a line is set in that such a token begins.
-pub fn set_in(turn: Turn, depth: usize) -> usize
-    ensures { result ≡ canonical.set_in turn depth }
+pub fn set_in(turn: Turn, steps: usize) -> usize
+    ensures { result ≡ canonical.set_in turn steps }
 {
     match turn {
-        Turn::Closes | Turn::Leaves => depth.saturating_sub(1),
-        _ => depth,
+        Turn::Closes | Turn::Leaves => steps.saturating_sub(1),
+        _ => steps,
     }
 }
 
