@@ -6,6 +6,9 @@ ghost use Rattle.std.specs.List.{sum};
 ghost use Rattle.cal_base.specs.Claims.{claim_bound, is_spent};
 ghost use Rattle.eager_claim.specs.Claimed.{claimed_in, noted};
 
+#[cfg(test)]
+mod tests;
+
 use cal_base::CALLER;
 pub use cal_base::Claimed;
 use progress_table::ProgressTable;

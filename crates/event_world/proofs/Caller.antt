@@ -1,15 +1,14 @@
 -- The caller completes a step.
-use Rattle.std.proofs.Common.{◌≡◌, ◌≢◌, ℕ, zero, suc, ◌+◌, ◌^◌, ◌<◌, ◌≤◌, Bool, true, false, cond, not, ◌&&◌, ltb, [], ◌∷◌, ◌++◌, refl, sym, ap, ◌∙◌, subst, ⊎_elim, arith, append_assoc}
-use Rattle.std.proofs.lemmas.Bool.{cases_lt, and_right, and_parts, not-true, le-ltb, both_ways}
+use Rattle.std.proofs.Common.{◌≡◌, ℕ, zero, suc, ◌+◌, ◌<◌, ◌≤◌, true, false, not, ◌&&◌, ltb, [], ◌∷◌, ◌++◌, refl, sym, ap, ◌∙◌, subst, ⊎_elim, arith, append_assoc}
+use Rattle.std.proofs.lemmas.Bool.{cases_lt, and_right, and_parts, not-true, le-ltb}
 use Rattle.cal_base.specs.declared.step.TheConstants.{CALLER}
-use Rattle.cal_base.specs.declared.step.Verdict.TheVariants.{First, Full}
-use Rattle.cal_base.specs.declared.step.Claimed.{Claimed}
+use Rattle.cal_base.specs.declared.step.Verdict.TheVariants.{First}
 use Rattle.cal_base.specs.declared.step.Claimed.TheVariants.{Work, AllDone, Spent}
 use Rattle.cal_base.specs.declared.step.Entry.TheVariants.{Claim, Arrive}
 use Rattle.cal_base.specs.Memory.{kinds_of}
 use Rattle.cal_base.specs.After.{least_faulty}
 use Rattle.cal_base.specs.History.{History, is_caller, anyone, is_claim, is_arrival, claims_by, arrivals_by, is_delivered}
-use Rattle.cal_base.specs.Claims.{StepJob, size_of, claimed, verdict_on, is_wanted, delivered, IsLegal, IsComplete, MayClaim, MayArrive}
+use Rattle.cal_base.specs.Claims.{StepJob, size_of, claimed, delivered, IsLegal, IsComplete, MayClaim, MayArrive}
 use Rattle.step_laws.specs.Laws.{IsRightClaim}
 use Rattle.step_laws.proofs.Histories.{count_by-push, legal_push}
 use Rattle.step_laws.proofs.Growth.{delivered_at, delivered_apart, delivered_no_more}

@@ -2,4 +2,4 @@ pub mod Counting
 pub mod Caller
 pub mod Turns
 pub mod Meant
-pub mod Rows
+pub mod Examples

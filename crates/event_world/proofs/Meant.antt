@@ -1,5 +1,5 @@
 -- The world has the program's meaning.
-use Rattle.std.proofs.Common.{◌≡◌, ℕ, zero, suc, ◌<◌, ◌≤◌, Bool, true, false, cond, List, [], ◌∷◌, ◌++◌, refl, sym, ap, ◌∙◌, subst, arith, append_assoc, Result, Ok, Err}
+use Rattle.std.proofs.Common.{◌≡◌, ℕ, suc, ◌<◌, ◌≤◌, true, false, cond, List, [], ◌∷◌, ◌++◌, refl, sym, ap, ◌∙◌, subst, arith, append_assoc, Result, Ok, Err}
 use Rattle.cal_base.specs.declared.step.TheConstants.{CALLER}
 use Rattle.cal_base.specs.declared.step.Claimed.{Claimed}
 use Rattle.cal_base.specs.declared.step.Claimed.TheVariants.{Work, AllDone, Spent}
@@ -10,10 +10,10 @@ use Rattle.cal_base.specs.Claims.{StepJob, size_of, claimed, merged, meant, IsLe
 use Rattle.step_laws.specs.Laws.{IsRightClaim}
 use Rattle.step_laws.proofs.StepLaws.{claims_are_right, merged_is_meant}
 use Rattle.event_world.specs.declared.event.Event.{Event}
-use Rattle.cal_base.specs.Main.{Main, Ends, Shows, Opens, Event as Shown, Line, step_event, Meaning, going_on, meaning_of, steps_behind, steps_of, IsNumbered}
-use Rattle.event_world.specs.World.{Mode, Idle, Busy, Stopped, Delivery, ClosedStep, Phase, Open, Over, Run, is_all_done, is_complete, closing, run_on, settled, State, freed, Turn, turn_of, after_turn, apply_in, apply, apply_all, first_state, completed, finish_main, finish_in, world}
-use Rattle.event_world.specs.Law.{Each, jobs_in, IsOfWorker, IsWhole, IsMeant, NoCaller, WorldIsMeant}
-use Rattle.event_world.proofs.Caller.{IsWholeNow, completed_is_whole}
+use Rattle.cal_base.specs.Main.{Main, Ends, Shows, Opens, Line, step_event, Meaning, going_on, meaning_of, steps_behind, steps_of, IsNumbered}
+use Rattle.event_world.specs.World.{Mode, Idle, Busy, Stopped, Delivery, ClosedStep, Phase, Open, Over, Run, is_all_done, is_complete, closing, run_on, settled, State, freed, Turn, after_turn, apply_in, apply, apply_all, first_state, completed, finish_main, finish_in}
+use Rattle.event_world.specs.Law.{Each, jobs_in, IsOfWorker, IsWhole, WorldIsMeant}
+use Rattle.event_world.proofs.Caller.{completed_is_whole}
 use Rattle.event_world.proofs.Turns.{each_append, IsBusyBelow, DeliveryFits, TurnFits, turn_fits}
 
 jobs_in-append : (xs ys : List ClosedStep) → jobs_in (xs ++ ys) ≡ jobs_in xs ++ jobs_in ys

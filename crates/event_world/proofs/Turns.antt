@@ -1,13 +1,12 @@
 -- Each event in an open step keeps the history legal.
-use Rattle.std.proofs.Common.{◌≡◌, ◌≢◌, ℕ, zero, suc, ◌+◌, ◌-◌, ◌^◌, ◌<◌, ◌≤◌, Bool, true, false, cond, ◌&&◌, eqb, List, [], ◌∷◌, ◌++◌, refl, sym, ap, ◌∙◌, subst, ⊎_elim, arith, Option, Some, None}
+use Rattle.std.proofs.Common.{◌≡◌, ◌≢◌, ℕ, zero, suc, ◌+◌, ◌-◌, ◌<◌, ◌≤◌, true, false, cond, ◌&&◌, eqb, List, [], ◌∷◌, ◌++◌, refl, ap, subst, arith, Option, Some, None}
 use Rattle.std.specs.Prelude.{slice_get, nat_lt}
-use Rattle.std.proofs.lemmas.Bool.{ne_eqb, cases_eq}
+use Rattle.std.proofs.lemmas.Bool.{ne_eqb}
 use Rattle.cal_base.specs.declared.step.TheConstants.{CALLER}
 use Rattle.cal_base.specs.declared.step.Verdict.{Verdict}
 use Rattle.cal_base.specs.declared.step.Verdict.TheVariants.{First, Again, Stale, Unasked, Full}
 use Rattle.cal_base.specs.declared.step.Claimed.{Claimed}
 use Rattle.cal_base.specs.declared.step.Claimed.TheVariants.{Work, AllDone, Spent}
-use Rattle.cal_base.specs.declared.step.Entry.{Entry}
 use Rattle.cal_base.specs.declared.step.Entry.TheVariants.{Claim, Arrive}
 use Rattle.cal_base.specs.History.{History, is_caller, anyone, is_claim, is_arrival, claims_by, arrivals_by}
 use Rattle.cal_base.specs.Claims.{StepJob, size_of, claimed, verdict_on, IsLegal, MayClaim, MayArrive}

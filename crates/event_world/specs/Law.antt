@@ -1,5 +1,5 @@
 -- The world of every list of events has the program's meaning.
-use Rattle.std.specs.Prelude.{◌≡◌, ℕ, ◌<◌, ◌≤◌, List, [], ◌∷◌, map}
+use Rattle.std.specs.Prelude.{◌≡◌, ◌<◌, ◌≤◌, List, [], ◌∷◌, map}
 use Rattle.cal_base.specs.declared.step.TheConstants.{CALLER}
 use Rattle.cal_base.specs.History.{History, claims_by, arrivals_by, is_caller}
 use Rattle.cal_base.specs.Claims.{StepJob, size_of, IsLegal, IsComplete}

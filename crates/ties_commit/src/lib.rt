@@ -2,5 +2,7 @@
 #![tactic(auto)]
 
 mod arrival;
+#[cfg(test)]
+mod tests;
 
 pub use arrival::{Delivery, commit, is_full_for};

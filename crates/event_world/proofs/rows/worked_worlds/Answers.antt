@@ -1,0 +1,20 @@
+use Rattle.event_world.proofs.Examples
+use Rattle.event_world.proofs.rows.worked_worlds.Goals as goal
+
+pub returns-clause-nobody : goal.returns-clause-nobody
+returns-clause-nobody c = Examples.nobody_works
+
+pub returns-clause-stops : goal.returns-clause-stops
+returns-clause-stops c = Examples.worker_stops
+
+pub returns-clause-late : goal.returns-clause-late
+returns-clause-late c = Examples.repeated_and_late
+
+pub returns-clause-conflict : goal.returns-clause-conflict
+returns-clause-conflict c = Examples.conflict_in_order_of_numbers
+
+pub returns-clause-fault_first : goal.returns-clause-fault_first
+returns-clause-fault_first c = Examples.later_fault_first
+
+pub returns-clause-skipped : goal.returns-clause-skipped
+returns-clause-skipped c = Examples.skipped_events

@@ -1,0 +1,13 @@
+//! Worked examples of worlds. They are the contract of a function that does nothing.
+
+ghost use Rattle.event_world.specs.Rows.{NobodyWorks, WorkerStops, RepeatedAndLate, ConflictInOrderOfNumbers, LaterFaultFirst, SkippedEvents};
+
+/// Each example is a small program, a list of events, what is shown, the steps' histories and the end.
+pub fn worked_worlds()
+    ensures nobody { NobodyWorks }
+    ensures stops { WorkerStops }
+    ensures late { RepeatedAndLate }
+    ensures conflict { ConflictInOrderOfNumbers }
+    ensures fault_first { LaterFaultFirst }
+    ensures skipped { SkippedEvents }
+{}
