@@ -1,0 +1,5 @@
+pub mod Effects
+pub mod Walking
+pub mod Unique
+pub mod Complete
+pub mod Lists
