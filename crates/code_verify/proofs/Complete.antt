@@ -1,8 +1,8 @@
 -- A sound code is walked through to its end.
-use Rattle.std.proofs.Common.{◌≡◌, ◌≢◌, ℕ, zero, suc, ◌+◌, ◌<◌, ◌≤◌, Bool, true, false, cond, ltb, eqb, List, [], ◌∷◌, length, map, Option, Some, None, ◌⊎◌, inl, inr, refl, sym, ap, subst, ◌∙◌, arith}
+use Rattle.std.proofs.Common.{◌≡◌, ℕ, zero, suc, ◌+◌, ◌<◌, ◌≤◌, Bool, true, false, cond, ltb, List, [], ◌∷◌, length, map, Option, Some, None, inl, inr, refl, sym, ap, subst, ◌∙◌, arith}
 use Rattle.std.specs.Prelude.{slice_get, slice_set, IsTrue, IsSome, ◌==◌, unwrap_or}
 use Rattle.std.specs.Option.{option_map}
-use Rattle.std.proofs.lemmas.Bool.{le-ltb, cases_lt, eq-eqb}
+use Rattle.std.proofs.lemmas.Bool.{le-ltb, cases_lt}
 use Rattle.std.proofs.lemmas.Option.{slice_get_within, slice_get-map}
 use Rattle.std.proofs.lemmas.List.{length-map}
 use Rattle.bytecode.specs.declared.instr.Instr.{Instr}
@@ -10,9 +10,9 @@ use Rattle.bytecode.specs.declared.instr.Instr.TheVariants as i
 use Rattle.bytecode.specs.declared.module.Code.{Code}
 use Rattle.bytecode.specs.declared.module.Module.{Module}
 use Rattle.code_verify.specs.Kinds.{Kinds, after}
-use Rattle.code_verify.specs.Rules.{Stands, Taken, KindsAt, IsTaken, Comes, IsAhead, IsInRange, leads, LeavesNothing, GoesBack, IsRight, IsSound, HasShape}
-use Rattle.code_verify.specs.Walk.{◌>>=◌, Table, same_kinds, agreed, expects, looped, ended, goes_on, kinds_in, opened, goes_with, walk_at, walk, unknown}
-use Rattle.code_verify.proofs.Walking.{At, Told, put_told, expects_told, same_itself, same_place, not_past, some_is, at_one, Opened, opens_at, Fine, From, Known, first_known, walk_known, all_known, AreFrom, head_stands, tail_from, Back}
+use Rattle.code_verify.specs.Rules.{Stands, Taken, KindsAt, Comes, IsAhead, IsInRange, leads, LeavesNothing, GoesBack, IsRight, IsSound, HasShape}
+use Rattle.code_verify.specs.Walk.{◌>>=◌, Table, same_kinds, agreed, expects, looped, ended, goes_on, kinds_in, opened, walk_at, walk, unknown}
+use Rattle.code_verify.proofs.Walking.{At, Told, put_told, same_itself, same_place, not_past, some_is, Opened, opens_at, Known, first_known, walk_known, all_known, AreFrom, head_stands, tail_from, Back}
 use Rattle.code_verify.proofs.Unique.{leads_ahead}
 
 -- the kinds that a table knows, and none where it knows none

@@ -3,3 +3,5 @@ pub mod Walking
 pub mod Unique
 pub mod Complete
 pub mod Lists
+pub mod Using
+pub mod Verifying

@@ -1,16 +1,15 @@
 -- A walk through a code comes to its end exactly where the code has kinds for each place.
-use Rattle.std.proofs.Common.{◌≡◌, ◌≢◌, ℕ, zero, suc, ◌+◌, ◌<◌, ◌≤◌, Bool, true, false, cond, ltb, eqb, List, [], ◌∷◌, ◌++◌, length, drop, map, Option, Some, None, ◌⊎◌, inl, inr, refl, sym, ap, subst, ◌∙◌, arith}
-use Rattle.std.specs.Prelude.{slice_get, slice_set, IsTrue, IsSome, ◌==◌, ◌↔◌, unwrap_or}
-use Rattle.std.proofs.lemmas.Bool.{eqb-true, eqb-false, eq-eqb, le-ltb, ltb-false, cases_lt}
-use Rattle.std.proofs.lemmas.Option.{slice_get_within, slice_get-map}
-use Rattle.std.proofs.lemmas.List.{length-map}
+use Rattle.std.proofs.Common.{◌≡◌, ◌≢◌, ℕ, zero, suc, ◌+◌, ◌<◌, ◌≤◌, Bool, true, false, cond, ltb, eqb, List, [], ◌∷◌, ◌++◌, length, drop, Option, Some, None, ◌⊎◌, inl, inr, refl, sym, ap, subst, ◌∙◌, arith}
+use Rattle.std.specs.Prelude.{slice_get, slice_set, IsTrue, IsSome, ◌==◌, ◌↔◌}
+use Rattle.std.proofs.lemmas.Bool.{eqb-true, eqb-false, eq-eqb, ltb-false, cases_lt}
+use Rattle.std.proofs.lemmas.Option.{slice_get_within}
 use Rattle.bytecode.specs.declared.instr.Instr.{Instr}
 use Rattle.bytecode.specs.declared.instr.Instr.TheVariants as i
 use Rattle.bytecode.specs.declared.module.Ty.TheVariants as ty
 use Rattle.bytecode.specs.declared.module.Code.{Code}
 use Rattle.bytecode.specs.declared.module.Module.{Module}
 use Rattle.code_verify.specs.Kinds.{Kinds, after}
-use Rattle.code_verify.specs.Rules.{Stands, Taken, KindsAt, IsTaken, Comes, IsAhead, IsInRange, leads, LeavesNothing, GoesBack, IsRight, IsSound, HasShape, most_operands}
+use Rattle.code_verify.specs.Rules.{Stands, leads, LeavesNothing}
 use Rattle.code_verify.specs.Walk.{◌>>=◌, Changes, Table, same_kinds, agreed, expects, looped, ended, goes_on, kinds_in, opened, goes_with, walk_at, walk, unknown}
 
 -- ---- places of a list

@@ -1,12 +1,12 @@
 -- The rules for a module. In a code that keeps them each place has one list of kinds.
-use Rattle.std.specs.Prelude.{◌≡◌, ℕ, ◌+◌, ◌<◌, ◌≤◌, ◌==◌, if◌then◌else◌, Bool, true, false, IsTrue, List, [], ◌∷◌, length, Option, Some, None, slice_get}
+use Rattle.std.specs.Prelude.{◌≡◌, ℕ, ◌+◌, ◌<◌, ◌≤◌, ◌==◌, if◌then◌else◌, Bool, true, false, IsTrue, List, [], ◌∷◌, length, Some, slice_get}
 use Rattle.std.specs.List.{AllByRecursion, Contains}
 use Rattle.bytecode.specs.declared.instr.PrintItem.{PrintItem}
 use Rattle.bytecode.specs.declared.instr.PrintItem.TheVariants as item
 use Rattle.bytecode.specs.declared.instr.Instr.{Instr}
 use Rattle.bytecode.specs.declared.instr.Instr.TheVariants as i
 use Rattle.bytecode.specs.declared.module.Ty.{Ty}
-use Rattle.bytecode.specs.declared.module.Ty.TheVariants.{Int, Bool as Truth}
+use Rattle.bytecode.specs.declared.module.Ty.TheVariants.{Int}
 use Rattle.bytecode.specs.declared.module.Code.{Code}
 use Rattle.bytecode.specs.declared.module.Module.{Module}
 use Rattle.bytecode.specs.Spelling.{HasSpelling}

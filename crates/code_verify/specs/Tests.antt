@@ -1,5 +1,5 @@
 -- What the verifier tests of a module, code by code.
-use Rattle.std.specs.Prelude.{◌≡◌, ℕ, ◌+◌, ◌<◌, ◌≤◌, ◌↔◌, true, Bool, List, ◌∷◌, length, Option, Some, slice_get}
+use Rattle.std.specs.Prelude.{◌≡◌, ℕ, ◌+◌, ◌<◌, ◌≤◌, ◌↔◌, true, Bool, List, ◌∷◌, length, Some, slice_get}
 use Rattle.std.specs.List.{AllByRecursion, Contains}
 use Rattle.bytecode.specs.declared.module.Ty.{Ty}
 use Rattle.bytecode.specs.declared.module.Ty.TheVariants.{Int}
@@ -47,9 +47,14 @@ pub record SomeUses (m : Module) (uses : List Bool) (c : Code) : Type 0 where
   pub stands : Stands c place instr
   pub found : UsesBy m uses instr
 
--- the list says which functions below an index read or set a tally word
-abbrev pub TellsUses : Module → List Bool → ℕ → Type 0
-TellsUses m uses bound = (f : ℕ) → f < bound → (slice_get uses f ≡ Some true) ↔ UsesTally m f
+-- each function calls itself and those before it
+abbrev pub CallBackwards : Module → Type 0
+CallBackwards m = (f : ℕ) (c : Code) (place g : ℕ) → slice_get m.functions f ≡ Some c → Stands c place (i.Call g) → g ≤ f
+
+-- the list says of this many functions, from the first on, which read or set a tally word themselves or through their calls
+pub record TellsUses (m : Module) (uses : List Bool) (count : ℕ) : Type 0 where
+  pub long : length uses ≡ count
+  pub told : (f : ℕ) → f < count → (slice_get uses f ≡ Some true) ↔ UsesTally m f
 
 -- one of these tally words is in the range
 abbrev pub HoldsTally : List ℕ → ℕ → ℕ → Type 0

@@ -1,10 +1,20 @@
 //! The rules that keep a module's machine from getting stuck, and their test.
 #![tactic(auto)]
 
-pub mod effect;
-pub mod kinds;
-pub mod owner;
-pub mod range;
-pub mod standing;
-pub mod tallies;
-pub mod walk;
+mod code;
+mod effect;
+mod kinds;
+mod owner;
+mod range;
+mod standing;
+mod tallies;
+mod uses;
+mod verified;
+mod walk;
+mod whole;
+
+pub use verified::{Verified, VerifyError};
+pub use whole::verify;
+
+#[cfg(test)]
+mod tests;

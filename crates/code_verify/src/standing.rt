@@ -19,8 +19,9 @@ fn is_plain_array(m: &Module, instr: &Instr) -> bool
     ensures { IsTrue result ↔ IsPlainArray m.now instr.now }
 {
     match instr {
-        Instr::Item(first, count) | Instr::SetItem(first, count) | Instr::AddItem(first, count) =>
-            holds_no_tally(m, *first, *count),
+        Instr::Item(first, count) => holds_no_tally(m, *first, *count),
+        Instr::SetItem(first, count) => holds_no_tally(m, *first, *count),
+        Instr::AddItem(first, count) => holds_no_tally(m, *first, *count),
         _ => true,
     }
 }

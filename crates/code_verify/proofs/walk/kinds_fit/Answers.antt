@@ -1,5 +1,5 @@
 use Rattle.std.proofs.Common.{arith, ◌∙◌, ap, sym, length, refl}
-use Rattle.code_verify.specs.Walk.{Table, walk, walk_at, unknown}
+use Rattle.code_verify.specs.Walk.{walk, walk_at, unknown}
 use Rattle.code_verify.proofs.Walking.{changed, unchanged, walks_on, walks_off, walked, walk_long, unknown_long}
 use Rattle.code_verify.proofs.walk.kinds_fit.Goals as goal
 
