@@ -1,0 +1,6 @@
+pub mod Machine
+pub mod Runs
+pub mod Meaning
+pub mod Reaching
+pub mod Fitting
+pub mod Laws
