@@ -16,6 +16,7 @@ use Rattle.bytecode.specs.declared.module.Module.{Module}
 abbrev pub Kinds : Type 0
 Kinds = List Ty
 
+-- are both the same kind?
 abbrev pub same_kind : Ty → Ty → Bool
 same_kind Int Int = true
 same_kind Truth Truth = true
@@ -32,6 +33,7 @@ result gives.Nothing = []
 result gives.Int = Int ∷ []
 result gives.Bool = Truth ∷ []
 
+-- the kind of a printed item's value, if it has one
 abbrev pub item_kinds : PrintItem → Kinds
 item_kinds (item.Text index) = []
 item_kinds item.Int = Int ∷ []
@@ -42,6 +44,7 @@ abbrev pub items_kinds : List PrintItem → Kinds
 items_kinds [] = []
 items_kinds (x ∷ items) = items_kinds items ++ item_kinds x
 
+-- this many ints
 abbrev pub ints : ℕ → Kinds
 ints zero = []
 ints (suc n) = Int ∷ ints n

@@ -154,6 +154,7 @@ pub record IsSound (m : Module) (c : Code) : Type 0 where
 
 -- ---- where an instruction may stand
 
+-- the address is a tally word of the module
 abbrev pub IsTally : Module → ℕ → Type 0
 IsTally m a = Contains m.tallies a
 
@@ -205,16 +206,18 @@ CallsNoLater f _ = Unit {0}
 
 -- ---- the whole module
 
+-- a function's code prints nothing, opens no step, and calls no later function
 pub record IsFunction (m : Module) (f : ℕ) (c : Code) : Type 0 where
   pub sound : IsSound m c
   pub each : (place : ℕ) (instr : Instr) → Stands c place instr → IsPlainArray m instr × IsNotMains instr × CallsNoLater f instr
 
--- the first two locals of a block, its width and its number, are ints
+-- a block's code prints nothing, opens no step, and neither reads nor sets a tally word; its first two locals, its width and its number, are ints
 pub record IsBlock (m : Module) (c : Code) : Type 0 where
   pub sound : IsSound m c
   pub params : (rest : List Ty) × (c.locals ≡ Int ∷ Int ∷ rest)
   pub each : (place : ℕ) (instr : Instr) → Stands c place instr → IsPlainArray m instr × IsNotMains instr × UsesNoTally m instr
 
+-- main's code
 pub record IsMain (m : Module) (c : Code) : Type 0 where
   pub sound : IsSound m c
   pub each : (place : ℕ) (instr : Instr) → Stands c place instr → IsPlainArray m instr × MayStandInMain m instr

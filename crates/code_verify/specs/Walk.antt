@@ -8,11 +8,12 @@ use Rattle.code_verify.specs.Kinds.{Kinds, same_kind, after}
 use Rattle.code_verify.specs.Rules.{most_operands}
 
 infixl 10 ◌>>=◌
+-- goes on with what is there
 abbrev pub ◌>>=◌ : {A B : Type 0} → Option A → (A → Option B) → Option B
 (Some x) >>= f = f x
 None >>= f = None
 
--- what is changed was changed so, or it can't be
+-- where the answer is yes, the change leads to this, and where it is no, there is none
 abbrev pub Changes : {A : Type 0} → Bool → A → Option A → Type 0
 Changes true later given = given ≡ Some later
 Changes false later given = given ≡ None
@@ -21,6 +22,7 @@ Changes false later given = given ≡ None
 abbrev pub Table : Type 0
 Table = List (Option Kinds)
 
+-- are both lists the same?
 abbrev pub same_kinds : Kinds → Kinds → Bool
 same_kinds [] [] = true
 same_kinds [] (j ∷ js) = false

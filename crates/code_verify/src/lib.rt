@@ -4,6 +4,7 @@
 mod code;
 mod effect;
 mod kinds;
+pub mod laws;
 mod owner;
 mod range;
 mod standing;
