@@ -11,7 +11,7 @@ use Rattle.bytecode.specs.declared.module.Module.{Module}
 use Rattle.bytecode.specs.Spelling.{FitsBlock}
 use Rattle.code_verify.specs.Rules.{Stands, IsVerified, IsPlainArray, IsNotMains, MayStandInMain, UsesNoTally, UsesTally, Itself, Through}
 use Rattle.machine_meaning.specs.Machine.{◌>>=◌, kind_of, State, Next, On, Prints, Opens, Ends, Traps, step, next}
-use Rattle.machine_meaning.specs.Runs.{LeadsTo, Reached, Start, Then, Begins, Mains, Routines, routine_beginning, Comes, Goes, runs, goes_on, instructions_in, most_steps, NeverStuck, EndsInTime, IsEnd, RoutinesEnd}
+use Rattle.machine_meaning.specs.Runs.{main_beginning, LeadsTo, Reached, Start, Then, Begins, Mains, Routines, routine_beginning, Comes, Goes, runs, goes_on, instructions_in, most_steps, NeverStuck, EndsInTime, IsEnd, RoutinesEnd}
 use Rattle.machine_meaning.specs.Fitting.{MayRun, Runs, Fits}
 use Rattle.machine_meaning.proofs.Steps.{Good, Follows, begun_fits, step_good}
 
@@ -92,14 +92,14 @@ module _ (m : Module) (ok : IsVerified m) where
       let more = in_list m.blocks b c at in
       record { of = inr (inl (b, at)); sound = is.sound; small = omega (arith, more); may = λ place x st. let h = is.each place x st in block_may m x h.0 h.1 h.2 }
 
-  function_runs : (r : Bool) (f : ℕ) (c : Code) → slice_get m.functions f ≡ Some c → (IsTrue r → UsesTally m f → ⊥) → Runs m r c
+  pub function_runs : (r : Bool) (f : ℕ) (c : Code) → slice_get m.functions f ≡ Some c → (IsTrue r → UsesTally m f → ⊥) → Runs m r c
   function_runs r f c at barred =
       let is = ok.functions f c at in
       let more = in_list m.functions f c at in
       record { of = inr (inr (f, at)); sound = is.sound; small = omega (arith, more); may = λ place x st. let h = is.each place x st in function_may m r f c at barred place x st h.0 h.1 }
 
   -- a state that fits has a good step
-  next_good : (r : Bool) (s : State) → Fits m r s → Good r (Follows m r (function_runs r) s) (next m s)
+  pub next_good : (r : Bool) (s : State) → Fits m r s → Good r (Follows m r (function_runs r) s) (next m s)
   next_good r s fits =
       let there = stands_at fits.call.runs.sound.taken s.call.code.instrs s.call.place (map kind_of s.call.operands) fits.call.runs.sound.is_taken.each fits.call.operands in
       subst (λ (o : Option Instr). Good r (Follows m r (function_runs r) s) (o >>= (λ instr. step m instr s))) (sym there.1) (step_good m r (function_runs r) s fits there.0 there.1)
@@ -112,16 +112,22 @@ module _ (m : Module) (ok : IsVerified m) where
     few = omega arith;
   }
 
+  pub main_fits : (memory : Memory) (fuel : ℕ) → Fits m false (main_beginning m memory fuel)
+  main_fits memory fuel = record { owner = refl; call = begun_fits m false (function_runs false) m.main main_runs [] (rw ok.spelled.main.params refl); waits = tt; few = omega arith }
+
   -- a beginning fits
   begins_fit : (s : State) → Begins m s → (r : Bool) × Fits m r s
-  begins_fit s (Mains memory fuel) = (false, record { owner = refl; call = begun_fits m false (function_runs false) m.main main_runs [] (rw ok.spelled.main.params refl); waits = tt; few = omega arith })
+  begins_fit s (Mains memory fuel) = (false, main_fits memory fuel)
   begins_fit s (Routines b block width id opening fuel h) = (true, routine_fits b block width id opening fuel h)
 
+  -- what is reached from a state that fits does
+  pub reached_from : (r : Bool) (first s : State) → Fits m r first → Reached m first s → Fits m r s
+  reached_from r first s fits Start = fits
+  reached_from r first s fits (Then s1 s2 n reached e l) =
+      led m r (Follows m r (function_runs r) s1) (λ t h. h.0) n s2 (subst (λ (o : Option Next). Good r (Follows m r (function_runs r) s1) o) e (next_good r s1 (reached_from r first s1 fits reached))) l
+
   reached_fits : (first s : State) → Begins m first → Reached m first s → (r : Bool) × Fits m r s
-  reached_fits first s b Start = begins_fit first b
-  reached_fits first s b (Then s1 s2 n reached e l) =
-      let f = reached_fits first s1 b reached in
-      (f.0, led m f.0 (Follows m f.0 (function_runs f.0) s1) (λ t h. h.0) n s2 (subst (λ (o : Option Next). Good f.0 (Follows m f.0 (function_runs f.0) s1) o) e (next_good f.0 s1 f.1)) l)
+  reached_fits first s b reached = let f = begins_fit first b in (f.0, reached_from f.0 first s f.1 reached)
 
   pub never_stuck : NeverStuck m
   never_stuck first s b reached = let f = reached_fits first s b reached in good_some f.0 (Follows m f.0 (function_runs f.0) s) (next m s) (next_good f.0 s f.1)

@@ -4,3 +4,4 @@ pub mod Meaning
 pub mod Reaching
 pub mod Fitting
 pub mod Laws
+pub mod Rows

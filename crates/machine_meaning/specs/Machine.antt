@@ -25,12 +25,14 @@ use Rattle.bytecode.specs.declared.module.Module.{Module}
 use Rattle.code_verify.specs.Kinds.{same_kind}
 
 infixl 10 ◌>>=◌
+-- goes on with what is there
 abbrev pub ◌>>=◌ : {A B : Type 0} → Option A → (A → Option B) → Option B
 (Some x) >>= f = f x
 None >>= f = None
 
 -- ---- states
 
+-- the kind of a value
 abbrev pub kind_of : Val → Ty
 kind_of (Int z) = ty.Int
 kind_of (Truth b) = ty.Bool

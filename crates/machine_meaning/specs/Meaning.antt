@@ -1,5 +1,5 @@
 -- What a module means: the answers of its routines, and main as it runs.
-use Rattle.std.specs.Prelude.{ℕ, zero, suc, ◌+◌, List, [], ◌∷◌, ◌++◌, map, take, drop, length, Option, Some, None}
+use Rattle.std.specs.Prelude.{◌≡◌, ℕ, zero, suc, ◌+◌, List, [], ◌∷◌, ◌++◌, map, take, drop, length, Option, Some, None}
 use Rattle.std.specs.List.{range_with_len}
 use Rattle.cal_base.specs.declared.ends.Cause.TheVariants.{FuelSpent}
 use Rattle.cal_base.specs.declared.ends.RoutineEnd.{RoutineEnd}
@@ -18,7 +18,7 @@ use Rattle.cal_base.specs.Main.{Meaning, meaning_of}
 use Rattle.bytecode.specs.declared.module.Code.{Code}
 use Rattle.bytecode.specs.declared.module.Module.{Module}
 use Rattle.machine_meaning.specs.Machine.{State, Next, On, Prints, Opens, Ends, Traps, next}
-use Rattle.machine_meaning.specs.Runs.{Run, Comes, Goes, Stuck, runs, most_steps, main_beginning, routine_beginning}
+use Rattle.machine_meaning.specs.Runs.{Reached, Run, Comes, Goes, Stuck, runs, most_steps, main_beginning, routine_beginning}
 
 -- how a routine's run ended: its end, what it wrote and added, and the fuel that it leaves
 pub record Outcome : Type 0 where
@@ -80,10 +80,20 @@ main_from m whole (suc bound) steps s = main_at m whole steps (λ more_steps lat
 abbrev pub module_memory : Module → Memory
 module_memory m = first_memory m.words m.tallies m.initial
 
+-- main goes on from a state, behind a number of parallel steps, in a run with this fuel
+abbrev pub main_of : Module → (whole steps : ℕ) → State → outline.Main
+main_of m whole steps s = main_from m whole (most_steps m s + 1) steps s
+
 -- main as it runs with this fuel
 abbrev pub machine_main : Module → ℕ → outline.Main
-machine_main m fuel = main_from m fuel (most_steps m (main_beginning m (module_memory m) fuel) + 1) 0 (main_beginning m (module_memory m) fuel)
+machine_main m fuel = main_of m fuel 0 (main_beginning m (module_memory m) fuel)
 
 -- what the module means with this fuel: the events of its run and its end
 abbrev pub machine_meaning : Module → ℕ → Meaning
 machine_meaning m fuel = meaning_of (machine_main m fuel)
+
+-- from each state that main reaches it goes on just where its step leads: to the next state, behind a line, or behind a parallel step with any memory
+abbrev pub MainGoesOn : Module → Type 0
+MainGoesOn m =
+    (memory : Memory) (fuel whole steps : ℕ) (s : State) → Reached m (main_beginning m memory fuel) s
+    → main_of m whole steps s ≡ main_at m whole steps (λ more_steps later. main_of m whole more_steps later) (next m s)

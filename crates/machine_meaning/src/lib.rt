@@ -1,7 +1,8 @@
 //! The machine of compiled code: its small steps, what a module means, and the laws over its runs.
 #![tactic(auto)]
 
-ghost use Rattle.machine_meaning.specs.Laws.{VerifiedIsNeverStuck, VerifiedEndsInTime, RoutinesOfVerifiedEnd, CallsCompose, TrapsOfCalls};
+ghost use Rattle.machine_meaning.specs.Rows.{WorkedRows};
+ghost use Rattle.machine_meaning.specs.Laws.{VerifiedIsNeverStuck, VerifiedEndsInTime, RoutinesOfVerifiedEnd, CallsCompose, TrapsOfCalls, MainOfVerifiedGoesOn};
 
 /// The machine of a verified module never reaches a state without a next step: no test on operands, kinds, places or addresses fails.
 pub fn never_stuck()
@@ -26,4 +27,14 @@ pub fn call_composes()
 /// A call traps where the function's body does.
 pub fn call_traps()
     ensures { TrapsOfCalls }
+{}
+
+/// Main of a verified module goes on just where its steps lead: the meaning runs out of no bound.
+pub fn main_goes_on()
+    ensures { MainOfVerifiedGoesOn }
+{}
+
+/// Small modules mean what they must.
+pub fn worked_rows()
+    ensures { WorkedRows }
 {}
