@@ -1,0 +1,7 @@
+pub mod Effects
+pub mod Walking
+pub mod Unique
+pub mod Complete
+pub mod Lists
+pub mod Using
+pub mod Verifying

@@ -1,0 +1,5 @@
+pub mod Kinds
+pub mod Rules
+pub mod Walk
+pub mod Tests
+pub mod Laws

@@ -1,0 +1,7 @@
+pub mod Machine
+pub mod Runs
+pub mod Meaning
+pub mod Reaching
+pub mod Fitting
+pub mod Laws
+pub mod Rows

@@ -1,0 +1,40 @@
+//! The machine of compiled code: its small steps, what a module means, and the laws over its runs.
+#![tactic(auto)]
+
+ghost use Rattle.machine_meaning.specs.Rows.{WorkedRows};
+ghost use Rattle.machine_meaning.specs.Laws.{VerifiedIsNeverStuck, VerifiedEndsInTime, RoutinesOfVerifiedEnd, CallsCompose, TrapsOfCalls, MainOfVerifiedGoesOn};
+
+/// The machine of a verified module never reaches a state without a next step: no test on operands, kinds, places or addresses fails.
+pub fn never_stuck()
+    ensures { VerifiedIsNeverStuck }
+{}
+
+/// The machine of a verified module comes to its end, or to an event, within a number of steps that the fuel gives.
+pub fn ends_in_time()
+    ensures { VerifiedEndsInTime }
+{}
+
+/// A routine of a verified module comes to its end or to a trap; it never prints and never opens a step.
+pub fn routines_end()
+    ensures { RoutinesOfVerifiedEnd }
+{}
+
+/// A call does what the function's body does.
+pub fn call_composes()
+    ensures { CallsCompose }
+{}
+
+/// A call traps where the function's body does.
+pub fn call_traps()
+    ensures { TrapsOfCalls }
+{}
+
+/// Main of a verified module goes on just where its steps lead: the meaning runs out of no bound.
+pub fn main_goes_on()
+    ensures { MainOfVerifiedGoesOn }
+{}
+
+/// Small modules mean what they must.
+pub fn worked_rows()
+    ensures { WorkedRows }
+{}
