@@ -11,3 +11,4 @@ pub mod Lines
 pub mod Telling
 pub mod Mains
 pub mod Starting
+pub mod Accepted

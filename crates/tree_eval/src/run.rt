@@ -18,6 +18,7 @@ use csl_meaning::{Ending, Local, World};
 use csl_tree::program::Program;
 use sqlite_items::Items;
 use std::alloc::Global;
+use type_check::checked::Checked;
 
 /// Why an evaluation gave up; a front of the text was written.
 #[derive(Clone, Copy, PartialEq, Eq, Debug)]
@@ -40,9 +41,8 @@ fn run_end(went: Result<Ending, MainHalt>, steps: u64) -> Result<RunEnd, EvalErr
     }
 }
 
-/// Runs a program on one thread with this many units of fuel, and appends the lines that it prints. The words of its
-/// declarations are at most 262,144. Answers how the run ended, or `OutFailed` or `NoMemory`; see `docs/PROMISES.md`.
-pub fn eval<S: Sink>(
+/// Runs a program whose words fit the memory.
+pub(crate) fn eval_tree<S: Sink>(
     alloc: Global,
     p: &Program,
     fuel: u32,
@@ -75,4 +75,22 @@ pub fn eval<S: Sink>(
         out,
     );
     run_end(went, world.steps)
+}
+
+/// Runs an accepted program on one thread with this many units of fuel, and appends the lines that it prints. Each routine of
+/// a step has as many units of its own. Answers how the run ended, or `OutFailed` or `NoMemory`; what a program means is told
+/// in `docs/LANGUAGE.md`.
+pub fn eval<S: Sink>(
+    alloc: Global,
+    p: &Checked,
+    fuel: u32,
+    out: &mut S,
+) -> Result<RunEnd, EvalError>
+    ensures end { IfOk result (λ end. end ≡ (meaning.meaning p.now fuel).ending) }
+    ensures whole { IfOk result (λ _. Appends (S.written out.old) (S.written out.new) (text_of false (meaning.meaning p.now fuel).events)) }
+    ensures prefix { OnErr result (AppendsPrefix (S.written out.old) (S.written out.new) (text_of false (meaning.meaning p.now fuel).events)) }
+    ensures later { S.faults out.old ≤ S.faults out.new }
+    ensures failed { IsErrOf result error.OutFailed → Rose (S.faults out.old) (S.faults out.new) }
+{
+    eval_tree(alloc, p.program(), fuel, out)
 }

@@ -1,4 +1,4 @@
-use super::*;
+use crate::run::eval_tree;
 use cal_base::{MemSink, RunEnd};
 use csl_tree::name::{Name, Text};
 use csl_tree::program::{BinaryOp, Expr, Form, Item, Node, Program, Stmt};
@@ -37,7 +37,7 @@ fn prints_a_line(rt: HostRuntime) -> Result<(), Fail> {
         main,
     };
     let mut out = MemSink::make(alloc, 1, 64, Vec::new(alloc))?;
-    let end = eval(alloc, &program, 3, &mut out);
+    let end = eval_tree(alloc, &program, 3, &mut out);
     assert_eq!(rt; end, Ok(RunEnd::Done { steps: 0 }));
     assert_eq!(rt; out.bytes(), b"sum -2\n".as_slice());
     Ok(())
