@@ -1,0 +1,4 @@
+pub mod Readings
+pub mod Errors
+pub mod Laws
+pub mod Words
