@@ -1,1 +1,6 @@
-pub mod Nothing
+pub mod Fronts
+pub mod FaultLines
+pub mod Loading
+pub mod Only
+pub mod Kept
+pub mod Promises

@@ -1,31 +1,91 @@
 //! How a call ends: its status and the line that tells of it.
 
-ghost use Rattle.std.specs.Prelude.{◌≡◌, OnOk, OnErr};
+ghost use Rattle.std.specs.Prelude.{◌≡◌, ◌++◌, codes, OnOk, OnErr};
 ghost use Rattle.std.specs.Io.KnownBytes.{Appends};
 ghost use Rattle.cal_base.specs.Causes.{HasCause};
 ghost use Rattle.cal_base.specs.Contents.{AppendsPrefix};
-ghost use Rattle.calypso_cli.specs.Endings.{status_of, err_text};
+ghost use Rattle.calypso_cli.specs.Commands.{ended};
+ghost use Rattle.cal_base.specs.Text.{line};
+ghost use Rattle.calypso_cli.specs.Endings.{refused, status_of, err_text};
 ghost use Rattle.calypso_cli.specs.Seen.{ending_seen};
 
-use cal_base::{Failed, Sink, write_all};
+use crate::lines::{write_fault, write_pieces};
+use cal_base::{Failed, RunEnd, Sink, write_all};
+use csl_reader::Refusal;
+use itoa::Buffer;
 
 /// How a call ends. The table of statuses is in `docs/RUNTIME.md`.
-#[derive(Clone, Copy, Debug, PartialEq, Eq)]
-pub enum Ending {
+#[derive(Clone, Copy, Debug)]
+pub enum Ending<'a> {
+    /// The run is done, or the text or file is written.
+    Done,
     /// The words give no command.
     NoCommand,
+    /// The file of this name could not be loaded, made or appended to.
+    CannotUse(&'a str),
+    /// The program's text is refused, by what stands at this place of it.
+    Refused { at: u32, why: Refusal },
+    /// The run ends in this fault.
+    Fault(RunEnd),
     /// Memory was wanted and not there.
     NoMemory,
+    /// The output failed.
+    OutputFailed,
+    /// The file of this name is longer than its limit.
+    TooLong(&'a str),
 }
 
-impl Ending {
+/// Writes the line of a refused text.
+fn write_refusal<E: Sink>(err: &mut E, at: u32, why: Refusal) -> Result<(), Failed>
+    ensures ok { OnOk result (Appends (E.written err.old) (E.written err.new) (err_text (refused at why))) }
+    ensures err { OnErr result (AppendsPrefix (E.written err.old) (E.written err.new) (err_text (refused at why))) }
+    ensures cause { HasCause (E.faults err.old) (E.faults err.new) result }
+{
+    let mut place = Buffer::new();
+    let pieces: [&[u8]; 5] = [
+        b"refused: at ",
+        place.format(at).as_bytes(),
+        b": ",
+        why.words().as_bytes(),
+        b"\n",
+    ];
+    write_pieces(err, &pieces)
+}
+
+/// Writes a line about a file.
+fn write_file_line<E: Sink>(err: &mut E, name: &str, what: &[u8]) -> Result<(), Failed>
+    ensures ok { OnOk result (Appends (E.written err.old) (E.written err.new) (line (codes "file " ++ name.now ++ what.now))) }
+    ensures err { OnErr result (AppendsPrefix (E.written err.old) (E.written err.new) (line (codes "file " ++ name.now ++ what.now))) }
+    ensures cause { HasCause (E.faults err.old) (E.faults err.new) result }
+{
+    let pieces: [&[u8]; 4] = [b"file ", name.as_bytes(), what, b"\n"];
+    write_pieces(err, &pieces)
+}
+
+impl<'a> Ending<'a> {
+    /// How a call ends with the run of a program.
+    pub(crate) fn of_run(end: RunEnd) -> Ending<'a>
+        ensures { ending_seen result ≡ ended end }
+    {
+        match end {
+            RunEnd::Done { .. } => Ending::Done,
+            RunEnd::MainFault { .. } | RunEnd::StepFailed { .. } => Ending::Fault(end),
+        }
+    }
+
     /// The status of the process.
     pub fn status(&self) -> u8
         ensures { result ≡ status_of (ending_seen self.now) }
     {
         match self {
+            Ending::Done => 0,
             Ending::NoCommand => 2,
+            Ending::CannotUse(_) => 3,
+            Ending::Refused { .. } => 4,
+            Ending::Fault(_) => 5,
             Ending::NoMemory => 6,
+            Ending::OutputFailed => 7,
+            Ending::TooLong(_) => 9,
         }
     }
 
@@ -36,8 +96,14 @@ impl Ending {
         ensures cause { HasCause (E.faults err.old) (E.faults err.new) result }
     {
         match self {
+            Ending::Done => Ok(()),
             Ending::NoCommand => write_all(err, b"no command\n"),
+            Ending::CannotUse(name) => write_file_line(err, name, b": cannot be used"),
+            Ending::Refused { at, why } => write_refusal(err, *at, *why),
+            Ending::Fault(end) => write_fault(err, *end),
             Ending::NoMemory => write_all(err, b"out of memory\n"),
+            Ending::OutputFailed => write_all(err, b"output failed\n"),
+            Ending::TooLong(name) => write_file_line(err, name, b": too long"),
         }
     }
 }

@@ -1,20 +1,24 @@
 //! The top call: all that the program does.
 
-ghost use Rattle.std.specs.Prelude.{◌≡◌, ◌≤◌, map, string_bytes};
-ghost use Rattle.calypso_cli.specs.Promise.{Gets, KeepsPromise, MayDo};
+ghost use Rattle.std.specs.Prelude.{◌≡◌, ◌≤◌, map, string_bytes, []};
+ghost use Rattle.calypso_cli.specs.Commands.{check, eval, run};
+ghost use Rattle.calypso_cli.specs.Promise.{Gets, MayUse, MayDo, Works, KeepsPromise};
 ghost use Rattle.calypso_cli.specs.Endings.{no_memory, status_of, err_text};
-ghost use Rattle.calypso_cli.specs.Seen.{ending_seen};
+ghost use Rattle.calypso_cli.specs.Seen.{command_seen, ending_seen};
 
 use crate::Ending;
+use crate::command::{Command, WordsError, read_words};
+use crate::load::load_program;
+use crate::run::{evaluate, print};
 use cal_base::{Files, Gate, Sink};
 use std::alloc::Global;
 use std::sync::Wait;
 use std::thread::Threads;
 
-// Tells of the ending, and answers its status.
-fn conclude<E: Sink>(ending: Ending, err: &mut E) -> u8
-    ensures status { result ≡ status_of (ending_seen ending) }
-    ensures line { Gets (E.written err.old) (E.written err.new) (E.faults err.old) (E.faults err.new) (err_text (ending_seen ending)) }
+/// Tells of the ending, and answers its status.
+fn conclude<E: Sink>(ending: Ending<'_>, err: &mut E) -> u8
+    ensures status { result ≡ status_of (ending_seen ending.entry) }
+    ensures line { Gets (E.written err.old) (E.written err.new) (E.faults err.old) (E.faults err.new) (err_text (ending_seen ending.entry)) }
     ensures later { E.faults err.old ≤ E.faults err.new }
 {
     let _ = ending.write(err);
@@ -30,13 +34,81 @@ pub fn out_of_memory<E: Sink>(err: &mut E) -> u8
     conclude(Ending::NoMemory, err)
 }
 
+/// Writes the canonical text of the program in a file.
+fn check_file<'a, F: Files, S: Sink>(
+    alloc: Global,
+    file: &'a str,
+    files: &mut F,
+    out: &mut S,
+) -> Ending<'a>
+    requires { F.may_load file.now }
+    ensures works { Works (check file.now)
+        (record { files = F.holds files.old; out = S.written out.old; file_faults = F.faults files.old; out_faults = S.faults out.old })
+        (record { files = F.holds files.new; out = S.written out.new; file_faults = F.faults files.new; out_faults = S.faults out.new })
+        (ending_seen result) [] }
+    ensures files_later { F.faults files.old ≤ F.faults files.new }
+    ensures out_later { S.faults out.old ≤ S.faults out.new }
+{
+    match load_program(alloc, files, file) {
+        Ok(program) => print(alloc, &program, out),
+        Err(ending) => ending,
+    }
+}
+
+/// Runs the program in a file.
+fn run_file<'a, F: Files, S: Sink>(
+    alloc: Global,
+    file: &'a str,
+    files: &mut F,
+    out: &mut S,
+) -> Ending<'a>
+    requires { F.may_load file.now }
+    ensures evals { Works (eval file.now)
+        (record { files = F.holds files.old; out = S.written out.old; file_faults = F.faults files.old; out_faults = S.faults out.old })
+        (record { files = F.holds files.new; out = S.written out.new; file_faults = F.faults files.new; out_faults = S.faults out.new })
+        (ending_seen result) [] }
+    ensures runs { Works (run file.now)
+        (record { files = F.holds files.old; out = S.written out.old; file_faults = F.faults files.old; out_faults = S.faults out.old })
+        (record { files = F.holds files.new; out = S.written out.new; file_faults = F.faults files.new; out_faults = S.faults out.new })
+        (ending_seen result) [] }
+    ensures files_later { F.faults files.old ≤ F.faults files.new }
+    ensures out_later { S.faults out.old ≤ S.faults out.new }
+{
+    match load_program(alloc, files, file) {
+        Ok(program) => evaluate(alloc, &program, out),
+        Err(ending) => ending,
+    }
+}
+
+/// Does what the command asks for.
+fn carry_out<'a, F: Files, S: Sink>(
+    alloc: Global,
+    command: &'a Command,
+    files: &mut F,
+    out: &mut S,
+) -> Ending<'a>
+    requires { MayUse F.may_load F.may_write (command_seen command.now) }
+    ensures works { Works (command_seen command.now)
+        (record { files = F.holds files.old; out = S.written out.old; file_faults = F.faults files.old; out_faults = S.faults out.old })
+        (record { files = F.holds files.new; out = S.written out.new; file_faults = F.faults files.new; out_faults = S.faults out.new })
+        (ending_seen result) [] }
+    ensures files_later { F.faults files.old ≤ F.faults files.new }
+    ensures out_later { S.faults out.old ≤ S.faults out.new }
+{
+    match command {
+        Command::Check { file } => check_file(alloc, file, files, out),
+        Command::Eval { file } => run_file(alloc, file, files, out),
+        Command::Run { file } => run_file(alloc, file, files, out),
+    }
+}
+
 /// Does what the words of the command line ask for, and answers the status of the process.
 ///
-/// The words come without the program's own name. No command is built yet: whatever the words are, the answer
-/// is 2, and `err` gets the line `no command`.
+/// The words come without the program's own name. The commands are told in `docs/RUNTIME.md`, and what is promised of
+/// each in `docs/PROMISES.md`.
 pub fn calypso<R: Threads + Wait + Sync, F: Files, S: Sink, E: Sink, G: Gate>(
     _rt: &R,
-    _alloc: Global,
+    alloc: Global,
     words: &[String],
     files: &mut F,
     out: &mut S,
@@ -46,22 +118,23 @@ pub fn calypso<R: Threads + Wait + Sync, F: Files, S: Sink, E: Sink, G: Gate>(
     requires { MayDo F.may_load F.may_write (map string_bytes words.now) }
     ensures { KeepsPromise (map string_bytes words.now)
         (record {
-          files = F.holds files.old;
-          out = S.written out.old;
+          objects = record { files = F.holds files.old; out = S.written out.old; file_faults = F.faults files.old; out_faults = S.faults out.old };
           err = E.written err.old;
-          file_faults = F.faults files.old;
-          out_faults = S.faults out.old;
           err_faults = E.faults err.old;
         })
         (record {
-          files = F.holds files.new;
-          out = S.written out.new;
+          objects = record { files = F.holds files.new; out = S.written out.new; file_faults = F.faults files.new; out_faults = S.faults out.new };
           err = E.written err.new;
-          file_faults = F.faults files.new;
-          out_faults = S.faults out.new;
           err_faults = E.faults err.new;
         })
         result }
 {
-    conclude(Ending::NoCommand, err)
+    match read_words(alloc, words) {
+        Ok(command) => {
+            let ending = carry_out(alloc, &command, files, out);
+            conclude(ending, err)
+        }
+        Err(WordsError::NoCommand) => conclude(Ending::NoCommand, err),
+        Err(WordsError::NoMemory) => conclude(Ending::NoMemory, err),
+    }
 }

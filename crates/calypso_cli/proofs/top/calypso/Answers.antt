@@ -1,21 +1,19 @@
-use Rattle.std.proofs.Common.{arith, refl, inl}
-use Rattle.std.proofs.KnownBytes.{Appends-nil}
-use Rattle.calypso_cli.specs.Endings.{no_command}
-use Rattle.calypso_cli.proofs.Nothing.{same_files}
+use Rattle.std.proofs.Common.{Err, ap}
+use Rattle.calypso_cli.specs.Seen.{command_seen, ending_seen}
+use Rattle.calypso_cli.proofs.Promises.{promise_of_command, promise_of_none, promise_of_no_memory}
 use Rattle.calypso_cli.proofs.top.calypso.Goals as goal
 
-pub returns : goal.returns
-returns g c = record {
-  only_wrong_words = λ two. refl;
-  wrong_words = λ none. inl c.conclude.ensures.status;
-  nothing = λ none. record {
-    ending = no_command;
-    why = inl refl;
-    answers = c.conclude.ensures.status;
-    line = c.conclude.ensures.line;
-    out = Appends-nil _;
-    files = same_files _;
-  };
-  command = λ command is. elim command [ ];
-  counts = record { file_faults = omega arith; out_faults = omega arith; err_faults = c.conclude.ensures.later };
-}
+pub returns-in-Ok : goal.returns-in-Ok
+returns-in-Ok g c =
+    promise_of_command _ _ _ _ (command_seen c.in-Ok.command) (ending_seen c.carry_out-ending.result) c.in-Ok.ensures.command
+    c.carry_out-ending.ensures.works c.conclude.ensures.line c.conclude.ensures.status
+    (record { file_faults = c.carry_out-ending.ensures.files_later; out_faults = c.carry_out-ending.ensures.out_later; err_faults = c.conclude.ensures.later })
+
+pub returns-in-Err-NoCommand : goal.returns-in-Err-NoCommand
+returns-in-Err-NoCommand g c =
+    promise_of_none _ _ _ _ _ _ _ (c.in-Err-NoCommand.ensures.no_command (ap (λ e. Err e) c.in-Err-NoCommand.field-0-is))
+    c.conclude-in-Err-NoCommand.ensures.line c.conclude-in-Err-NoCommand.ensures.status c.conclude-in-Err-NoCommand.ensures.later
+
+pub returns-in-Err-NoMemory : goal.returns-in-Err-NoMemory
+returns-in-Err-NoMemory g c =
+    promise_of_no_memory _ _ _ _ _ _ _ c.conclude-in-Err-NoMemory.ensures.line c.conclude-in-Err-NoMemory.ensures.status c.conclude-in-Err-NoMemory.ensures.later
