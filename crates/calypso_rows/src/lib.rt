@@ -1,0 +1,13 @@
+//! Worked examples of the whole program: texts and words with what comes of them, and the tests that cross crates.
+#![tactic(auto)]
+
+#[cfg(test)]
+mod calls;
+#[cfg(test)]
+mod checks;
+#[cfg(test)]
+mod refusals;
+#[cfg(test)]
+mod runs;
+#[cfg(test)]
+mod sizes;

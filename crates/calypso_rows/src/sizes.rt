@@ -1,0 +1,156 @@
+//! Programs at the limits: long texts, deep nesting, many routines.
+
+use crate::calls::call;
+use cal_base::NoMemory;
+use std::alloc::Global;
+use std::test::Fail;
+
+/// Appends a text so many times.
+fn repeat(text: &mut Vec<u8>, piece: &[u8], count: usize) -> Result<(), NoMemory> {
+    for _ in 0..count {
+        text.extend_from_slice(piece)?;
+    }
+    Ok(())
+}
+
+/// A function that calls itself `calls` deep, where the calling statement stands `blocks` blocks and `parens` parentheses deep.
+fn nested(alloc: Global, calls: &[u8], blocks: usize, parens: usize) -> Result<Vec<u8>, NoMemory> {
+    let mut text = Vec::from_slice(alloc, b"shared { } int f(int n) { ")?;
+    repeat(&mut text, b"if (n > 0) { ", blocks)?;
+    text.extend_from_slice(b"return ")?;
+    repeat(&mut text, b"(", parens)?;
+    text.extend_from_slice(b"f(n - 1)")?;
+    repeat(&mut text, b")", parens)?;
+    text.extend_from_slice(b"; ")?;
+    repeat(&mut text, b"} ", blocks)?;
+    text.extend_from_slice(b"return 9; } main { print(f(")?;
+    text.extend_from_slice(calls)?;
+    text.extend_from_slice(b")); }")?;
+    Ok(text)
+}
+
+#[test]
+fn the_deepest_calls(rt: HostRuntime) -> Result<(), Fail> {
+    let text = nested(rt.alloc(), b"63", 30, 31)?;
+    let called = call(
+        &rt,
+        rt.alloc(),
+        &["run", "p.csl"],
+        &text,
+        Vec::new(rt.alloc()),
+    )?;
+    assert_eq!(rt; called.err.bytes(), b"".as_slice());
+    assert_eq!(rt; called.out.bytes(), b"9\n".as_slice());
+    let text = nested(rt.alloc(), b"64", 30, 31)?;
+    let called = call(
+        &rt,
+        rt.alloc(),
+        &["run", "p.csl"],
+        &text,
+        Vec::new(rt.alloc()),
+    )?;
+    assert_eq!(rt;
+        called.err.bytes(),
+        b"fault: after step 0: too deep\n".as_slice()
+    );
+    assert_eq!(rt; called.status, 5);
+    Ok(())
+}
+
+#[test]
+fn many_routines(rt: HostRuntime) -> Result<(), Fail> {
+    let called = call(
+        &rt,
+        rt.alloc(),
+        &["run", "p.csl"],
+        b"shared { tally int t; } main { parbegin routine[65536](int w, int id) { t += 1; } parend; print(t); }",
+        Vec::new(rt.alloc()),
+    )?;
+    assert_eq!(rt; called.err.bytes(), b"".as_slice());
+    assert_eq!(rt; called.out.bytes(), b"65536\n".as_slice());
+    Ok(())
+}
+
+#[test]
+fn many_words(rt: HostRuntime) -> Result<(), Fail> {
+    let called = call(
+        &rt,
+        rt.alloc(),
+        &["run", "p.csl"],
+        b"shared { int a[262144]; } main { for (int i = 0; i < 100; i += 1) { parbegin routine[2](int w, int id) { a[id * 262143] = a[id * 262143] + a[131072] + 1; } parend; } print(a[0], a[262143]); }",
+        Vec::new(rt.alloc()),
+    )?;
+    assert_eq!(rt; called.err.bytes(), b"".as_slice());
+    assert_eq!(rt; called.out.bytes(), b"100 100\n".as_slice());
+    Ok(())
+}
+
+/// A front of a text, and a piece so many times behind it.
+fn long_text(alloc: Global, front: &[u8], piece: &[u8], count: usize) -> Result<Vec<u8>, NoMemory> {
+    let mut text = Vec::from_slice(alloc, front)?;
+    repeat(&mut text, piece, count)?;
+    Ok(text)
+}
+
+#[test]
+fn the_longest_text(rt: HostRuntime) -> Result<(), Fail> {
+    let front = b"shared { } main { print(1); }";
+    let text = long_text(rt.alloc(), front, b" ", 1048547)?;
+    let called = call(
+        &rt,
+        rt.alloc(),
+        &["run", "p.csl"],
+        &text,
+        Vec::new(rt.alloc()),
+    )?;
+    assert_eq!(rt; called.out.bytes(), b"1\n".as_slice());
+    let text = long_text(rt.alloc(), front, b" ", 1048548)?;
+    let called = call(
+        &rt,
+        rt.alloc(),
+        &["run", "p.csl"],
+        &text,
+        Vec::new(rt.alloc()),
+    )?;
+    assert_eq!(rt; called.status, 9);
+    assert_eq!(rt; called.out.bytes(), b"".as_slice());
+    assert_eq!(rt; called.err.bytes(), b"file p.csl: too long\n".as_slice());
+    Ok(())
+}
+
+#[test]
+fn long_texts_are_read_without_a_deep_stack(rt: HostRuntime) -> Result<(), Fail> {
+    let rows: [(&[u8], &[u8], usize, &[u8]); 3] = [
+        (
+            b"shared { int x; } main { ",
+            b"x=1; ",
+            209710,
+            b"refused: at 1048575: unexpected\n",
+        ),
+        (
+            b"shared { } main { if (true) { } ",
+            b"else if (true) { } ",
+            55186,
+            b"refused: at 1048566: unexpected\n",
+        ),
+        (
+            b"shared { } main { print(",
+            b"-",
+            1048552,
+            b"refused: at 86: too deep\n",
+        ),
+    ];
+    for (front, piece, count, err) in rows {
+        let text = long_text(rt.alloc(), front, piece, count)?;
+        let called = call(
+            &rt,
+            rt.alloc(),
+            &["run", "p.csl"],
+            &text,
+            Vec::new(rt.alloc()),
+        )?;
+        assert_eq!(rt; called.err.bytes(), err);
+        assert_eq!(rt; called.status, 4);
+    }
+    Ok(())
+}
