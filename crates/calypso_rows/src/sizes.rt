@@ -31,29 +31,31 @@ fn nested(alloc: Global, calls: &[u8], blocks: usize, parens: usize) -> Result<V
 
 #[test]
 fn the_deepest_calls(rt: HostRuntime) -> Result<(), Fail> {
-    let text = nested(rt.alloc(), b"63", 30, 31)?;
-    let called = call(
-        &rt,
-        rt.alloc(),
-        &["run", "p.csl"],
-        &text,
-        Vec::new(rt.alloc()),
-    )?;
-    assert_eq!(rt; called.err.bytes(), b"".as_slice());
-    assert_eq!(rt; called.out.bytes(), b"9\n".as_slice());
-    let text = nested(rt.alloc(), b"64", 30, 31)?;
-    let called = call(
-        &rt,
-        rt.alloc(),
-        &["run", "p.csl"],
-        &text,
-        Vec::new(rt.alloc()),
-    )?;
-    assert_eq!(rt;
-        called.err.bytes(),
-        b"fault: after step 0: too deep\n".as_slice()
-    );
-    assert_eq!(rt; called.status, 5);
+    for (blocks, parens) in [(30, 31), (60, 1), (1, 60)] {
+        let text = nested(rt.alloc(), b"63", blocks, parens)?;
+        let called = call(
+            &rt,
+            rt.alloc(),
+            &["run", "p.csl"],
+            &text,
+            Vec::new(rt.alloc()),
+        )?;
+        assert_eq!(rt; called.err.bytes(), b"".as_slice());
+        assert_eq!(rt; called.out.bytes(), b"9\n".as_slice());
+        let text = nested(rt.alloc(), b"64", blocks, parens)?;
+        let called = call(
+            &rt,
+            rt.alloc(),
+            &["run", "p.csl"],
+            &text,
+            Vec::new(rt.alloc()),
+        )?;
+        assert_eq!(rt;
+            called.err.bytes(),
+            b"fault: after step 0: too deep\n".as_slice()
+        );
+        assert_eq!(rt; called.status, 5);
+    }
     Ok(())
 }
 
