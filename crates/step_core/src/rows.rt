@@ -1,10 +1,16 @@
 // Steps by hand, event by event.
 
+ghost use Rattle.std.specs.Prelude.{◌≡◌, IsFalse};
+ghost use Rattle.cal_base.specs.History.{is_claim, is_arrival, is_caller, anyone, claims_by, arrivals_by};
 ghost use Rattle.step_core.specs.Rows.{one_routine, two_routines};
 
 use crate::finished::Finished;
 use crate::state::Core;
-use cal_base::{Cause, Claimed, Image, JobName, KeptUpdate, RoutineEnd, StepFault, Verdict};
+use cal_base::{
+    CALLER, Cause, Claimed, Entry, Image, JobName, KeptUpdate, NoMemory, RoutineEnd, StepFault,
+    Verdict,
+};
+use std::alloc::Global;
 use std::test::Fail;
 
 // Step 2 of one routine, which writes nothing.
@@ -19,6 +25,72 @@ struct Two;
 
 impl JobName for Two {
     ghost job = { two_routines };
+}
+
+fn is_claim_of_caller(entry: &Entry) -> bool
+    ensures { result ≡ is_claim is_caller anyone entry.now }
+{
+    match entry {
+        Entry::Claim { who, k: _ } => *who == CALLER,
+        Entry::Arrive { .. } => false,
+    }
+}
+
+fn is_arrival_of_caller(entry: &Entry) -> bool
+    ensures { result ≡ is_arrival is_caller entry.now }
+{
+    match entry {
+        Entry::Claim { .. } => false,
+        Entry::Arrive {
+            who,
+            step: _,
+            k: _,
+            verdict: _,
+        } => *who == CALLER,
+    }
+}
+
+// Whether the caller claimed something.
+fn has_caller_claimed(history: &[Entry]) -> bool
+    ensures { IsFalse result → claims_by is_caller history.now ≡ 0 }
+{
+    match history {
+        [] => false,
+        [first, rest @ ..] => is_claim_of_caller(first) || has_caller_claimed(rest),
+    }
+}
+
+// Whether the caller delivered something.
+fn has_caller_delivered(history: &[Entry]) -> bool
+    ensures { IsFalse result → arrivals_by is_caller history.now ≡ 0 }
+{
+    match history {
+        [] => false,
+        [first, rest @ ..] => is_arrival_of_caller(first) || has_caller_delivered(rest),
+    }
+}
+
+// The caller's first claim.
+fn first_claim_of_caller(core: &mut Core<One>) -> Option<Claimed> {
+    if has_caller_claimed(core.history()) {
+        return None;
+    }
+    Some(core.claim(CALLER))
+}
+
+// The caller's first delivery.
+fn first_delivery_of_caller(
+    alloc: Global,
+    core: &mut Core<One>,
+    only: &Finished<One, KeptUpdate>,
+) -> Result<Option<Verdict>, NoMemory>
+    requires { only.now.k ≡ 0 }
+{
+    if has_caller_delivered(core.history()) {
+        return Ok(None);
+    }
+    let verdict = core.arrive(alloc, CALLER, only)?;
+    Ok(Some(verdict))
 }
 
 #[test]
@@ -92,6 +164,7 @@ fn workers_claims_and_arrivals_are_bounded(rt: HostRuntime) -> Result<(), Fail> 
         assert_eq!(rt; core.claim(0), Claimed::Work(0), "claim {count}");
     }
     assert_eq!(rt; core.claim(0), Claimed::Spent);
+    assert_eq!(rt; first_claim_of_caller(&mut core), Some(Claimed::Work(0)));
     assert_eq!(rt; core.arrive(alloc, 0, &only)?, Verdict::First);
     for count in 3..=102 {
         assert_eq!(rt;
@@ -102,7 +175,40 @@ fn workers_claims_and_arrivals_are_bounded(rt: HostRuntime) -> Result<(), Fail> 
     }
     assert_eq!(rt; core.arrive(alloc, 0, &only)?, Verdict::Full);
     assert_eq!(rt; core.arrive_held(31, 1, 7), Verdict::Full);
-    assert_eq!(rt; core.history().len(), 137);
+    assert_eq!(rt; core.history().len(), 138);
     assert!(rt; core.is_complete());
+    Ok(())
+}
+
+#[test]
+fn unasked_arrivals_leave_all_to_the_caller(rt: HostRuntime) -> Result<(), Fail> {
+    let alloc = rt.alloc();
+    let mut image = Image::make(alloc, 0, &[], &[])?;
+    let mut core: Core<One> = Core::make(alloc, 2, &image, 1)?;
+    let only: Finished<One, KeptUpdate> = Finished::of(
+        0,
+        RoutineEnd::Ended,
+        KeptUpdate::empty(alloc),
+    );
+    for count in 1..=102 {
+        assert_eq!(rt;
+            core.arrive(alloc, 0, &only)?,
+            Verdict::Unasked,
+            "arrival {count}"
+        );
+    }
+    assert_eq!(rt; core.arrive(alloc, 0, &only)?, Verdict::Full);
+    assert_eq!(rt; core.history().len(), 102);
+    assert!(rt; !core.is_complete());
+    assert_eq!(rt; first_claim_of_caller(&mut core), Some(Claimed::Work(0)));
+    let delivered = first_delivery_of_caller(alloc, &mut core, &only)?;
+    assert_eq!(rt; delivered, Some(Verdict::First));
+    let complete = core.is_complete();
+    assert!(rt; complete);
+    if complete {
+        let closed = core.close(&mut image);
+        assert_eq!(rt; closed.result, Ok(()));
+        assert_eq!(rt; closed.history.len(), 104);
+    }
     Ok(())
 }
