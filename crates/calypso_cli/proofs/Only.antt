@@ -66,3 +66,17 @@ module _ (file : List ℕ) (work : Program → Work) where
   is_reached (long other large) = Contains-push [] file
   is_reached (not_accepted other at why few r) = Contains-push [] file
   is_reached (loaded other q few r) = Contains-push [] file
+
+  -- where there is no such file
+  only_missing : {o : Option (List ℕ)} {outcome : Outcome} → Loads file work o outcome → o ≡ None → outcome ≡ refusal file (cannot_use file)
+  only_missing missing e = refl
+  only_missing (long text large) e = absurd (no_text text (Some text) e refl)
+  only_missing (not_accepted text at why few r) e = absurd (no_text text (Some text) e refl)
+  only_missing (loaded text p few r) e = absurd (no_text text (Some text) e refl)
+
+  -- whatever it holds
+  pub one_load : {o : Option (List ℕ)} {one two : Outcome} → Loads file work o one → Loads file work o two → one ≡ two
+  one_load missing other = sym (only_missing other refl)
+  one_load (long text large) other = sym (only_long other text refl large)
+  one_load (not_accepted text at why few r) other = sym (only_refused other text at why refl few r)
+  one_load (loaded text p few r) other = sym (only_loaded other text p refl few r)

@@ -3,6 +3,7 @@
 
 mod command;
 mod ending;
+pub mod laws;
 mod lines;
 mod load;
 mod run;
