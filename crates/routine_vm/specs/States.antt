@@ -1,0 +1,38 @@
+-- What runs in the machine, seen as a state of the module's machine.
+use Rattle.std.specs.Prelude.{◌≡◌, ℕ, ◌<◌, Bool, List, length, map, slice_index_or}
+use Rattle.cal_base.specs.Memory.{kinds_of}
+use Rattle.cal_base.specs.Pages.{first_memory}
+use Rattle.cal_base.specs.declared.value.Store.{Store}
+use Rattle.cal_base.specs.Stores.{memory_in}
+use Rattle.bytecode.specs.declared.module.Code.{Code}
+use Rattle.bytecode.specs.declared.module.Module.{Module}
+use Rattle.machine_meaning.specs.Machine.{Call, State}
+use Rattle.machine_meaning.specs.Meaning.{module_memory}
+use Rattle.routine_vm.specs.declared.frame.Body.{Body}
+use Rattle.routine_vm.specs.declared.frame.Body.TheVariants as body
+use Rattle.routine_vm.specs.declared.frame.Frame.{Frame}
+use Rattle.routine_vm.specs.declared.run.Run.{Run}
+
+-- the body is one of the module
+abbrev pub HasBody : Module → Body → Type 0
+HasBody m body.Main = Unit {0}
+HasBody m (body.Block b) = b < length m.blocks
+HasBody m (body.Function f) = f < length m.functions
+
+-- the code of a body; one that the module has not counts as main
+abbrev pub code_of : Module → Body → Code
+code_of m body.Main = m.main
+code_of m (body.Block b) = slice_index_or m.blocks b m.main
+code_of m (body.Function f) = slice_index_or m.functions f m.main
+
+-- a frame as a call
+abbrev pub call_of : Module → Frame → Call
+call_of m f = record { code = code_of m f.body; place = f.place; locals = f.locals; operands = f.operands }
+
+-- what runs, with the words on which it works, as a state
+abbrev pub state_of : Module → Run → Store → State
+state_of m r store = record { call = call_of m r.call; callers = map (call_of m) r.waiting; store = store; fuel = r.fuel }
+
+-- the store has the words of the module, with their kinds
+abbrev pub HasWordsOf : Module → Store → Type 0
+HasWordsOf m store = kinds_of (memory_in store) ≡ kinds_of (module_memory m)

@@ -1,0 +1,25 @@
+//! What runs, and where its steps lead.
+
+use crate::frame::Frame;
+use crate::waiting::Waiting;
+use cal_base::Cause;
+
+/// Main, or a routine: the call that runs, those that wait for it, and the units of fuel that are left.
+#[derive(Drop)]
+pub struct Run {
+    pub call: Frame,
+    pub waiting: Waiting,
+    pub fuel: u32,
+}
+
+/// Where a step leads.
+#[derive(Clone, Copy, PartialEq, Eq, Debug)]
+pub enum Led {
+    /// To the next state.
+    On,
+    /// To the end.
+    Ends,
+    Traps(Cause),
+    /// Nowhere yet: the instruction shows a line or opens a step.
+    Event,
+}

@@ -1,0 +1,299 @@
+//! The small steps.
+
+ghost use Rattle.std.specs.Prelude.{◌≡◌, ◌≢◌, ◌≤◌, ◌<◌, ◌+◌, ◌^◌, ◌∷◌, [], ◌↔◌, IsTrue, IsSome, Some, length, take, reverse, slice_get, map};
+ghost use Rattle.cal_base.specs.Stores as stores;
+ghost use Rattle.machine_meaning.specs.Machine as machine;
+ghost use Rattle.routine_vm.specs.Frames.{behind};
+ghost use Rattle.routine_vm.specs.Sites.{MayUse};
+ghost use Rattle.routine_vm.specs.States.{HasBody, HasWordsOf, code_of, state_of};
+ghost use Rattle.routine_vm.specs.Steps.{Steps, Pushes, Leaves, Calls, GivesBack, HaveRoom, HaveShape};
+
+use crate::arithmetic::{difference, item_at, negative, product, quotient, remainder, sum};
+use crate::frame::Frame;
+use crate::run::{Led, Run};
+use crate::site::Site;
+use bytecode::{Code, Gives, Instr, Module};
+use cal_base::{Cause, Overflow, Val};
+
+/// Goes on behind the instruction.
+fn on(call: &mut Frame) -> Led
+    requires { call.old.place + 1 < 2 ^ 32 }
+    ensures led { result ≡ Led.On }
+    ensures call { call.new ≡ behind call.old call.old.operands }
+{
+    call.place += 1;
+    Led::On
+}
+
+/// Goes on behind the instruction, with this value on top.
+fn push(call: &mut Frame, v: Val) -> Led
+    requires place { call.old.place + 1 < 2 ^ 32 }
+    requires room { length call.old.operands ≤ 1024 }
+    ensures led { result ≡ Led.On }
+    ensures call { call.new ≡ behind call.old (v ∷ call.old.operands) }
+{
+    call.operands.push(v);
+    on(call)
+}
+
+/// Goes on behind the instruction, with this number on top, or traps.
+fn push_number(call: &mut Frame, value: Result<i64, Cause>) -> Led
+    requires place { call.old.place + 1 < 2 ^ 32 }
+    requires room { length call.old.operands ≤ 1024 }
+    ensures { Pushes value call.old result call.new }
+{
+    match value {
+        Ok(z) => push(call, Val::Int(z)),
+        Err(cause) => Led::Traps(cause),
+    }
+}
+
+/// Goes on with the instruction at the target.
+fn jump(call: &mut Frame, target: u32) -> Led
+    ensures led { result ≡ Led.On }
+    ensures call { call.new ≡ record call.old { place = target } }
+{
+    call.place = target;
+    Led::On
+}
+
+/// Puts the value of a word on top.
+fn read<W, S: Site<W>>(run: &mut Run, words: &mut W, a: u32) -> Led
+    requires word { MayUse (S.store words.old) a }
+    requires place { run.old.call.place + 1 < 2 ^ 32 }
+    requires room { length run.old.call.operands ≤ 1024 }
+    ensures led { result ≡ Led.On }
+    ensures run { run.new ≡ record run.old { call = behind run.old.call (Val.Int (stores.read_word (S.store words.old) a) ∷ run.old.call.operands) } }
+    ensures words { S.store words.new ≡ S.store words.old }
+    ensures leads { S.leads words.old words.new }
+{
+    let z = S::read(words, a);
+    push(&mut run.call, Val::Int(z))
+}
+
+/// Writes a word and goes on, or traps.
+fn write<W, S: Site<W>>(
+    run: &mut Run,
+    words: &mut W,
+    a: u32,
+    value: Result<i64, Cause>,
+) -> Led
+    requires word { MayUse (S.store words.old) a }
+    requires place { run.old.call.place + 1 < 2 ^ 32 }
+    ensures written { Leaves (S.store words.old) run.old (machine.writes (S.store words.old) a value) result (S.store words.new) run.new }
+    ensures leads { S.leads words.old words.new }
+{
+    match value {
+        Ok(z) => {
+            S::write(words, a, z);
+            on(&mut run.call)
+        }
+        Err(cause) => Led::Traps(cause),
+    }
+}
+
+/// Adds to a word and goes on, or traps.
+fn add<W, S: Site<W>>(run: &mut Run, words: &mut W, a: u32, v: i64) -> Led
+    requires word { a < length (stores.memory_in (S.store words.old)) }
+    requires place { run.old.call.place + 1 < 2 ^ 32 }
+    ensures sum { Leaves (S.store words.old) run.old (stores.add_word (S.store words.old) a v) result (S.store words.new) run.new }
+    ensures leads { S.leads words.old words.new }
+{
+    match S::add(words, a, v) {
+        Ok(()) => on(&mut run.call),
+        Err(Overflow) => Led::Traps(Cause::Overflow),
+    }
+}
+
+/// Calls a function, with its arguments on top.
+fn call(run: &mut Run, number: u32, function: &Code) -> Led
+    requires place { run.old.call.place + 1 < 2 ^ 32 }
+    requires few { function.now.params ≤ length function.now.locals }
+    requires room { length function.now.locals ≤ 64 }
+    requires given { function.now.params ≤ length run.old.call.operands }
+    requires deep { length run.old.waiting ≤ 64 }
+    ensures { Calls number function.now run.old result run.new }
+{
+    if run.fuel == 0 {
+        return Led::Traps(Cause::FuelSpent);
+    }
+    run.fuel -= 1;
+    if run.waiting.len() == 64 {
+        return Led::Traps(Cause::TooDeep);
+    }
+    run.waiting.enter(&mut run.call, number, function);
+    Led::On
+}
+
+/// Goes on with the last call that waits, with what this one gives back on top, or ends.
+fn leave(run: &mut Run, gives: Gives) -> Led
+    requires given { IsSome (machine.given_back gives run.old.call.operands) }
+    requires room { HaveRoom run.old.waiting }
+    ensures { GivesBack (machine.given_back gives run.old.call.operands) run.old result run.new }
+{
+    if run.waiting.len() == 0 {
+        return Led::Ends;
+    }
+    match gives {
+        Gives::Nothing => run.waiting.leave(&mut run.call),
+        Gives::Int | Gives::Bool => {
+            let v = run.call.operands.pop();
+            run.waiting.leave(&mut run.call);
+            run.call.operands.push(v);
+        }
+    }
+    Led::On
+}
+
+/// What one instruction does.
+fn perform<W, S: Site<W>>(
+    m: &Module,
+    code: &Code,
+    instr: &Instr,
+    run: &mut Run,
+    words: &mut W,
+) -> Led
+    requires there { IsSome (machine.step m.now instr.now (state_of m.now run.old (S.store words.old))) }
+    requires code { code.now ≡ code_of m.now run.old.call.body }
+    requires place { run.old.call.place + 1 < 2 ^ 32 }
+    requires room { length run.old.call.operands ≤ 1024 }
+    requires callers { HaveRoom run.old.waiting }
+    requires deep { length run.old.waiting ≤ 64 }
+    requires shapes { HaveShape m.now.functions }
+    requires limit { m.now.words ≤ 262144 }
+    requires words { HasWordsOf m.now (S.store words.old) }
+    ensures steps { Steps instr.now (machine.step m.now instr.now (state_of m.now run.old (S.store words.old))) (state_of m.now run.old (S.store words.old)) result (state_of m.now run.new (S.store words.new)) }
+    ensures leads { S.leads words.old words.new }
+{
+    match instr {
+        Instr::Int(z) => push(&mut run.call, Val::Int(*z)),
+        Instr::False => push(&mut run.call, Val::Truth(false)),
+        Instr::True => push(&mut run.call, Val::Truth(true)),
+        Instr::Add => {
+            let (x, y) = run.call.operands.numbers();
+            push_number(&mut run.call, sum(x, y))
+        }
+        Instr::Sub => {
+            let (x, y) = run.call.operands.numbers();
+            push_number(&mut run.call, difference(x, y))
+        }
+        Instr::Mul => {
+            let (x, y) = run.call.operands.numbers();
+            push_number(&mut run.call, product(x, y))
+        }
+        Instr::Div => {
+            let (x, y) = run.call.operands.numbers();
+            push_number(&mut run.call, quotient(x, y))
+        }
+        Instr::Rem => {
+            let (x, y) = run.call.operands.numbers();
+            push_number(&mut run.call, remainder(x, y))
+        }
+        Instr::Neg => {
+            let x = run.call.operands.number();
+            push_number(&mut run.call, negative(x))
+        }
+        Instr::Not => {
+            let b = run.call.operands.truth();
+            push(&mut run.call, Val::Truth(!b))
+        }
+        Instr::Eq => {
+            let same = run.call.operands.equal();
+            push(&mut run.call, Val::Truth(same))
+        }
+        Instr::Ne => {
+            let same = run.call.operands.equal();
+            push(&mut run.call, Val::Truth(!same))
+        }
+        Instr::Lt => {
+            let (x, y) = run.call.operands.numbers();
+            push(&mut run.call, Val::Truth(x < y))
+        }
+        Instr::Le => {
+            let (x, y) = run.call.operands.numbers();
+            push(&mut run.call, Val::Truth(x <= y))
+        }
+        Instr::Gt => {
+            let (x, y) = run.call.operands.numbers();
+            push(&mut run.call, Val::Truth(x > y))
+        }
+        Instr::Ge => {
+            let (x, y) = run.call.operands.numbers();
+            push(&mut run.call, Val::Truth(x >= y))
+        }
+        Instr::Load(l) => {
+            let v = run.call.locals.get(*l as usize);
+            push(&mut run.call, v)
+        }
+        Instr::Store(l) => {
+            let v = run.call.operands.pop();
+            run.call.locals.set(*l as usize, v);
+            on(&mut run.call)
+        }
+        Instr::Word(a) => read::<W, S>(run, words, *a),
+        Instr::Put(a) => {
+            let z = run.call.operands.number();
+            write::<W, S>(run, words, *a, Ok(z))
+        }
+        Instr::AddWord(a) => {
+            let z = run.call.operands.number();
+            add::<W, S>(run, words, *a, z)
+        }
+        Instr::Item(b, n) => {
+            let x = run.call.operands.number();
+            match item_at(*b, *n, x) {
+                Some(a) => read::<W, S>(run, words, a),
+                None => Led::Traps(Cause::OutOfRange),
+            }
+        }
+        Instr::SetItem(b, n) => {
+            let (x, z) = run.call.operands.numbers();
+            match item_at(*b, *n, x) {
+                Some(a) => write::<W, S>(run, words, a, Ok(z)),
+                None => Led::Traps(Cause::OutOfRange),
+            }
+        }
+        Instr::AddItem(b, n) => {
+            let (x, z) = run.call.operands.numbers();
+            match item_at(*b, *n, x) {
+                Some(a) => {
+                    let old = S::read(words, a);
+                    write::<W, S>(run, words, a, sum(old, z))
+                }
+                None => Led::Traps(Cause::OutOfRange),
+            }
+        }
+        Instr::Jump(t) => jump(&mut run.call, *t),
+        Instr::Branch(t) => {
+            if run.call.operands.truth() {
+                on(&mut run.call)
+            } else {
+                jump(&mut run.call, *t)
+            }
+        }
+        Instr::Loop(t) => {
+            if run.fuel == 0 {
+                return Led::Traps(Cause::FuelSpent);
+            }
+            run.fuel -= 1;
+            jump(&mut run.call, *t)
+        }
+        Instr::Call(f) => match m.functions.get(*f as usize) {
+            Some(function) => call(run, *f, function),
+            None => unreachable!(),
+        },
+        Instr::Return => leave(run, code.gives),
+        Instr::Pop => {
+            let _ = run.call.operands.pop();
+            on(&mut run.call)
+        }
+        Instr::Assert => {
+            if run.call.operands.truth() {
+                on(&mut run.call)
+            } else {
+                Led::Traps(Cause::Assertion)
+            }
+        }
+        Instr::Print(_) | Instr::Par(_, _) => Led::Event,
+    }
+}
