@@ -1,5 +1,5 @@
 -- What runs in the machine, seen as a state of the module's machine.
-use Rattle.std.specs.Prelude.{◌≡◌, ℕ, ◌<◌, Bool, List, length, map, slice_index_or}
+use Rattle.std.specs.Prelude.{◌≡◌, ℕ, ◌<◌, Bool, List, [], ◌∷◌, length, map, slice_index_or}
 use Rattle.cal_base.specs.Memory.{kinds_of}
 use Rattle.cal_base.specs.Pages.{first_memory}
 use Rattle.cal_base.specs.declared.value.Store.{Store}
@@ -18,6 +18,19 @@ abbrev pub HasBody : Module → Body → Type 0
 HasBody m body.Main = Unit {0}
 HasBody m (body.Block b) = b < length m.blocks
 HasBody m (body.Function f) = f < length m.functions
+
+-- the bodies of the calls, the running one first: functions above the one at the bottom
+abbrev pub Stacked : Module → Body → Body → List Body → Type 0
+Stacked m bottom running [] = running ≡ bottom
+Stacked m bottom running (caller ∷ waiting) = ((f : ℕ) × (running ≡ body.Function f) × (f < length m.functions)) × Stacked m bottom caller waiting
+
+-- the bodies of frames
+abbrev pub bodies_of : List Frame → List Body
+bodies_of waiting = map (λ f. f.body) waiting
+
+-- the calls of a run above this body
+abbrev pub RunsAbove : Module → Body → Run → Type 0
+RunsAbove m bottom r = Stacked m bottom r.call.body (bodies_of r.waiting)
 
 -- the code of a body; one that the module has not counts as main
 abbrev pub code_of : Module → Body → Code

@@ -5,7 +5,9 @@ ghost use Rattle.cal_base.specs.Stores as stores;
 ghost use Rattle.machine_meaning.specs.Machine as machine;
 ghost use Rattle.routine_vm.specs.Frames.{behind};
 ghost use Rattle.routine_vm.specs.Sites.{MayUse};
-ghost use Rattle.routine_vm.specs.States.{HasBody, HasWordsOf, code_of, state_of};
+ghost use Rattle.bytecode.specs.declared.module.Module.{Module};
+ghost use Rattle.routine_vm.specs.declared.frame.Body.{Body};
+ghost use Rattle.routine_vm.specs.States.{HasBody, HasWordsOf, RunsAbove, code_of, state_of};
 ghost use Rattle.routine_vm.specs.Steps.{Steps, Pushes, Leaves, Calls, GivesBack, HaveRoom, HaveShape};
 
 use crate::arithmetic::{difference, item_at, negative, product, quotient, remainder, sum};
@@ -40,7 +42,8 @@ fn push(call: &mut Frame, v: Val) -> Led
 fn push_number(call: &mut Frame, value: Result<i64, Cause>) -> Led
     requires place { call.old.place + 1 < 2 ^ 32 }
     requires room { length call.old.operands ≤ 1024 }
-    ensures { Pushes value call.old result call.new }
+    ensures pushes { Pushes value call.old result call.new }
+    ensures body { call.new.body ≡ call.old.body }
 {
     match value {
         Ok(z) => push(call, Val::Int(z)),
@@ -112,7 +115,8 @@ fn call(run: &mut Run, number: u32, function: &Code) -> Led
     requires room { length function.now.locals ≤ 64 }
     requires given { function.now.params ≤ length run.old.call.operands }
     requires deep { length run.old.waiting ≤ 64 }
-    ensures { Calls number function.now run.old result run.new }
+    ensures calls { Calls number function.now run.old result run.new }
+    ensures bodies { (m : Module) (bottom : Body) → number < length m.functions → RunsAbove m bottom run.old → RunsAbove m bottom run.new }
 {
     if run.fuel == 0 {
         return Led::Traps(Cause::FuelSpent);
@@ -129,7 +133,8 @@ fn call(run: &mut Run, number: u32, function: &Code) -> Led
 fn leave(run: &mut Run, gives: Gives) -> Led
     requires given { IsSome (machine.given_back gives run.old.call.operands) }
     requires room { HaveRoom run.old.waiting }
-    ensures { GivesBack (machine.given_back gives run.old.call.operands) run.old result run.new }
+    ensures back { GivesBack (machine.given_back gives run.old.call.operands) run.old result run.new }
+    ensures bodies { (m : Module) (bottom : Body) → RunsAbove m bottom run.old → RunsAbove m bottom run.new }
 {
     if run.waiting.len() == 0 {
         return Led::Ends;
@@ -163,6 +168,7 @@ fn perform<W, S: Site<W>>(
     requires limit { m.now.words ≤ 262144 }
     requires words { HasWordsOf m.now (S.store words.old) }
     ensures steps { Steps instr.now (machine.step m.now instr.now (state_of m.now run.old (S.store words.old))) (state_of m.now run.old (S.store words.old)) result (state_of m.now run.new (S.store words.new)) }
+    ensures bodies { (bottom : Body) → RunsAbove m.now bottom run.old → RunsAbove m.now bottom run.new }
     ensures leads { S.leads words.old words.new }
 {
     match instr {

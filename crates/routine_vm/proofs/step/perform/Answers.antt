@@ -1,6 +1,7 @@
 use Rattle.std.proofs.Common.{rules, subst, w64, ◌≡◌, ◌≤◌, ◌<◌, List, length, Option, Some, sym, ap, ◌∙◌, arith, ltb, true}
 use Rattle.std.proofs.lemmas.Bool.{ltb-true}
 use Rattle.std.proofs.lemmas.Int.{to_z-of_z}
+use Rattle.std.proofs.lemmas.Option.{slice_get_within}
 use Rattle.cal_base.specs.declared.value.Store.{Store}
 use Rattle.machine_meaning.specs.Machine as machine
 use Rattle.routine_vm.specs.Sites.{MayUse}
@@ -60,4 +61,10 @@ returns-in-Some-get-clause-steps g c =
     let f = c.in-Some-get.function.now in
     let found = sym c.in-Some-get.ensures.value in
     let shape = c.requires.shapes c.in-Call.f f found in
-    rw (c.in-Call.is, found) (call_steps c.args.m.now c.in-Call.f f found shape (g.S.Site.store c.args.words.now) c.args.run.now c.call.new.run c.call.result (rw (c.in-Call.is, found) at c.requires.there) c.call.ensures)
+    rw (c.in-Call.is, found) (call_steps c.args.m.now c.in-Call.f f found shape (g.S.Site.store c.args.words.now) c.args.run.now c.call.new.run c.call.result (rw (c.in-Call.is, found) at c.requires.there) c.call.ensures.calls)
+
+pub returns-in-Some-get-clause-bodies : goal.returns-in-Some-get-clause-bodies
+returns-in-Some-get-clause-bodies g c = λ bottom above. c.call.ensures.bodies c.args.m.now bottom (slice_get_within c.args.m.now.functions c.in-Call.f c.in-Some-get.function.now (sym c.in-Some-get.ensures.value)) above
+
+pub returns-in-Return-clause-bodies : goal.returns-in-Return-clause-bodies
+returns-in-Return-clause-bodies g c = λ bottom above. c.leave.ensures.bodies c.args.m.now bottom above
