@@ -2,3 +2,4 @@ pub mod Lists
 pub mod Words
 pub mod There
 pub mod Calls
+pub mod Ready

@@ -2,3 +2,4 @@ pub mod Sites
 pub mod Frames
 pub mod States
 pub mod Steps
+pub mod Ready

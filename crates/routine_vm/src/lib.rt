@@ -3,6 +3,7 @@
 
 mod arithmetic;
 mod frame;
+mod go;
 mod locals;
 mod operands;
 mod run;

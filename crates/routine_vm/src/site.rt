@@ -2,6 +2,7 @@
 
 ghost use Rattle.std.specs.Prelude.{◌≡◌, ◌<◌, IsTrue, length};
 ghost use Rattle.cal_base.specs.declared.value.Store.{Store};
+ghost use Rattle.cal_base.specs.Memory.{kinds_of};
 ghost use Rattle.cal_base.specs.Stores.{read_word, write_word, memory_in, Adds};
 ghost use Rattle.routine_vm.specs.Sites.{MayUse};
 
@@ -30,6 +31,8 @@ pub trait Site<W> {
         requires { a < length (memory_in (store words.old)) }
         ensures sum { Adds (store words.old) a v (store words.new) result }
         ensures leads { leads words.old words.new };
+
+    ghost keeps: { (earlier later : W) → leads earlier later → kinds_of (memory_in (store later)) ≡ kinds_of (memory_in (store earlier)) };
 
     ghost stays: { (w : W) → leads w w };
 
@@ -67,6 +70,8 @@ impl Site<Image> for InMain {
         }
     }
 
+    ghost keeps = { λ earlier later one. one.kinds };
+
     ghost stays = { λ w. later_refl w w refl };
 
     ghost joins = { later_transitive };
@@ -77,7 +82,8 @@ pub struct InRoutine;
 
 impl<M: Words> Site<M> for InRoutine {
     ghost use Rattle.std.specs.Prelude.{◌≡◌, refl};
-    ghost use Rattle.std.proofs.Common.{◌∙◌};
+    ghost use Rattle.std.proofs.Common.{◌∙◌, ap};
+    ghost use Rattle.cal_base.specs.Memory.{kinds_of};
     ghost use Rattle.cal_base.specs.declared.value.Store.TheVariants.{Routine};
 
     ghost store = { λ words. Routine (M.opening words) (M.written words) };
@@ -95,6 +101,8 @@ impl<M: Words> Site<M> for InRoutine {
     fn add(words: &mut M, a: u32, v: i64) -> Result<(), Overflow> {
         words.add(a, v)
     }
+
+    ghost keeps = { λ earlier later one. ap kinds_of one };
 
     ghost stays = { λ w. refl };
 

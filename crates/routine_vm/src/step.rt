@@ -151,7 +151,7 @@ fn leave(run: &mut Run, gives: Gives) -> Led
 }
 
 /// What one instruction does.
-fn perform<W, S: Site<W>>(
+pub fn perform<W, S: Site<W>>(
     m: &Module,
     code: &Code,
     instr: &Instr,
