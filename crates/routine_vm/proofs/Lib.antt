@@ -3,3 +3,4 @@ pub mod Words
 pub mod There
 pub mod Calls
 pub mod Ready
+pub mod Taken

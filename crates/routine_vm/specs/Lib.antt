@@ -3,3 +3,4 @@ pub mod Frames
 pub mod States
 pub mod Steps
 pub mod Ready
+pub mod Events

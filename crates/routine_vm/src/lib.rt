@@ -2,11 +2,14 @@
 #![tactic(auto)]
 
 mod arithmetic;
+pub mod event;
 mod frame;
 mod go;
 mod locals;
 mod operands;
+mod parts;
 mod run;
 mod site;
 mod step;
+mod taking;
 mod waiting;

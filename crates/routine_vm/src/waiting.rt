@@ -102,4 +102,16 @@ impl Waiting {
             Err(_) => unreachable!(),
         }
     }
+
+    /// Lets no call wait any more.
+    pub fn clear(&mut self)
+        ensures { self.new ≡ [] }
+    {
+        while let Some(frame) = self.waiting.pop() {
+            match self.reserve.push(frame) {
+                Ok(()) => {}
+                Err(_) => unreachable!(),
+            }
+        }
+    }
 }
