@@ -33,7 +33,8 @@ module _ (m : Module) (ok : IsVerified m) (whole : ℕ) where
       agree steps s (λ k later. main_from m whole bound k later) (λ k later. main_from m whole other k later) (next m s) (next_good m ok false s fits)
       (λ k later h. enough bound other k later h.0 (omega (arith, h.1, lt)) (omega (arith, h.1, less)))
 
-  goes_on : (steps : ℕ) (s : State) → Fits m false s → main_of m whole steps s ≡ main_at m whole steps (λ k later. main_of m whole k later) (next m s)
+  -- from a state that fits main goes on just where its step leads
+  pub goes_on : (steps : ℕ) (s : State) → Fits m false s → main_of m whole steps s ≡ main_at m whole steps (λ k later. main_of m whole k later) (next m s)
   goes_on steps s fits =
       let one_more : most_steps m s + 1 ≡ suc (most_steps m s) = omega arith in
       ap (λ (n : ℕ). main_from m whole n steps s) one_more

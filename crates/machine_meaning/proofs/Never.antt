@@ -104,7 +104,8 @@ module _ (m : Module) (ok : IsVerified m) where
       let there = stands_at fits.call.runs.sound.taken s.call.code.instrs s.call.place (map kind_of s.call.operands) fits.call.runs.sound.is_taken.each fits.call.operands in
       subst (λ (o : Option Instr). Good r (Follows m r (function_runs r) s) (o >>= (λ instr. step m instr s))) (sym there.1) (step_good m r (function_runs r) s fits there.0 there.1)
 
-  routine_fits : (b : ℕ) (block : Code) (width id : ℕ) (opening : Memory) (fuel : ℕ) → slice_get m.blocks b ≡ Some block → Fits m true (routine_beginning block width id opening fuel)
+  -- a routine's beginning fits
+  pub routine_fits : (b : ℕ) (block : Code) (width id : ℕ) (opening : Memory) (fuel : ℕ) → slice_get m.blocks b ≡ Some block → Fits m true (routine_beginning block width id opening fuel)
   routine_fits b block width id opening fuel h = record {
     owner = refl;
     call = begun_fits m true (function_runs true) block (block_runs b block h) (Int (pos width) ∷ Int (pos id) ∷ []) (rw ((all_at FitsBlock m.blocks b block ok.spelled.blocks.1 h).params, (ok.blocks b block h).params.1) refl);

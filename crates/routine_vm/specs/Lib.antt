@@ -4,3 +4,4 @@ pub mod States
 pub mod Steps
 pub mod Ready
 pub mod Events
+pub mod Held

@@ -6,6 +6,7 @@ pub mod event;
 mod frame;
 mod go;
 mod locals;
+pub mod machine;
 mod operands;
 mod parts;
 mod run;

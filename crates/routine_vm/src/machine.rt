@@ -1,0 +1,134 @@
+//! The machine.
+
+ghost use Rattle.std.specs.Prelude.{◌≡◌, ◌<◌, ◌≤◌, ◌∷◌, ℕ, [], length, IfOk, IsSome, Some, slice_get, map, ◌+◌, ◌^◌};
+ghost use Rattle.std.specs.FinMap.{empty};
+ghost use Rattle.cal_base.specs.Memory.{Memory, kinds_of};
+ghost use Rattle.cal_base.specs.Pages.{IsLater};
+ghost use Rattle.machine_meaning.specs.Machine as machine;
+ghost use Rattle.machine_meaning.specs.Runs.{main_beginning, Comes};
+ghost use Rattle.machine_meaning.specs.Meaning.{module_memory, main_of, main_at, routine_outcome};
+ghost use Rattle.routine_vm.specs.Ready.{outcome_from};
+ghost use Rattle.routine_vm.specs.Frames.{behind};
+ghost use Rattle.routine_vm.specs.Events.{piece_of};
+ghost use Rattle.routine_vm.specs.Held.{main_state, MayGoOn, event_at, IsTold, OpensBlocks};
+
+use crate::event::{Item, MainEvent};
+use crate::frame::{Body, Frame};
+use crate::go::{Stop, go};
+use crate::parts::Parts;
+use crate::run::Run;
+use crate::site::{InMain, InRoutine};
+use crate::taking::{take_items, take_widths};
+use crate::waiting::Waiting;
+use bytecode::{Module, PrintItem};
+use cal_base::{Cause, Image, NoMemory, RoutineEnd, Val, Words};
+use code_verify::Verified;
+use std::alloc::Global;
+use std::marker::Model;
+use std::mem;
+
+/// Runs main of a module from event to event, and its routines. All room is taken when it is made.
+#[derive(Drop)]
+pub struct Machine {
+    run: Run,
+    // While a routine runs, main's call; else the frame for a routine's.
+    apart: Frame,
+    items: Parts<Item>,
+    widths: Parts<u32>,
+}
+
+impl Model for Machine {
+    ghost use Rattle.std.specs.Prelude.{◌≡◌, []};
+    ghost use Rattle.routine_vm.specs.Held.{Held};
+
+    ghost Value = { Held };
+
+    ghost view = { λ s. record { call = s.run.call; fuel = s.run.fuel; items = s.items; widths = s.widths } };
+
+    ghost invariant = { λ s. s.run.waiting ≡ [] };
+}
+
+impl Machine {
+    /// A machine at main's beginning, with these units of fuel.
+    pub fn make(alloc: Global, code: &Verified, fuel: u32) -> Result<Machine, NoMemory>
+        ensures begins { IfOk result (λ it. (memory : Memory) → main_state code.now it memory ≡ main_beginning code.now memory fuel) }
+        ensures may { IfOk result (λ it. MayGoOn code.now it) }
+    {
+        let mut call = Frame::make(alloc)?;
+        call.begin(Body::Main, &code.module().main, &[]);
+        let waiting = Waiting::make(alloc)?;
+        let run = Run {
+            call,
+            waiting,
+            fuel,
+        };
+        let apart = Frame::make(alloc)?;
+        let items = Parts::make(alloc)?;
+        let widths = Parts::make(alloc)?;
+        Ok(Machine {
+            run,
+            apart,
+            items,
+            widths,
+        })
+    }
+
+    /// The part of this number, from 0, of the line that main shows.
+    pub fn item(&self, i: u32) -> Item
+        requires { i < length self.now.items }
+        ensures { slice_get self.now.items i ≡ Some result }
+    {
+        self.items.get(i as usize)
+    }
+
+    /// The width of the block of this number, from 0, of the step that main opens.
+    pub fn width(&self, i: u32) -> u32
+        requires { i < length self.now.widths }
+        ensures { slice_get self.now.widths i ≡ Some result }
+    {
+        self.widths.get(i as usize)
+    }
+
+    /// Shows a line.
+    fn show(&mut self, m: &Module, line: &[PrintItem]) -> MainEvent
+        requires there { IsSome (machine.pieces m.now line.now self.old.call.operands) }
+        requires few { length line.now ≤ 64 }
+        requires none { self.old.items ≡ [] }
+        requires place { self.old.call.place + 1 < 2 ^ 32 }
+        ensures event { result ≡ MainEvent.Print (length self.new.items) }
+        ensures pieces { machine.pieces m.now line.now self.old.call.operands ≡ Some (map (piece_of m.now) self.new.items, self.new.call.operands) }
+        ensures call { self.new.call ≡ behind self.old.call self.new.call.operands }
+        ensures fuel { self.new.fuel ≡ self.old.fuel }
+    {
+        take_items(m, line, &mut self.run.call.operands, &mut self.items);
+        self.run.call.place += 1;
+        MainEvent::Print {
+            items: line.len() as u32,
+        }
+    }
+
+    /// Opens a step of so many blocks.
+    fn open(&mut self, first: u32, count: u32) -> MainEvent
+        requires there { IsSome (machine.many_numbers count self.old.call.operands) }
+        requires few { count ≤ 64 }
+        requires none { self.old.widths ≡ [] }
+        requires place { self.old.call.place + 1 < 2 ^ 32 }
+        ensures { OpensBlocks first count self.old result self.new }
+    {
+        match take_widths(count, &mut self.run.call.operands, &mut self.widths) {
+            None => MainEvent::Fault(Cause::BadWidth),
+            Some(total) => {
+                if self.run.fuel == 0 {
+                    return MainEvent::Fault(Cause::FuelSpent);
+                }
+                self.run.fuel -= 1;
+                self.run.call.place += 1;
+                MainEvent::Par {
+                    first_block: first,
+                    blocks: count,
+                    total,
+                }
+            }
+        }
+    }
+}
