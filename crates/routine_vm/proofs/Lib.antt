@@ -4,3 +4,4 @@ pub mod There
 pub mod Calls
 pub mod Ready
 pub mod Taken
+pub mod Mains

@@ -7,7 +7,8 @@ ghost use Rattle.cal_base.specs.Pages.{IsLater};
 ghost use Rattle.machine_meaning.specs.Machine as machine;
 ghost use Rattle.machine_meaning.specs.Runs.{main_beginning, Comes};
 ghost use Rattle.machine_meaning.specs.Meaning.{module_memory, main_of, main_at, routine_outcome};
-ghost use Rattle.routine_vm.specs.Ready.{outcome_from};
+ghost use Rattle.code_verify.specs.Rules.{IsVerified};
+ghost use Rattle.routine_vm.specs.Ready.{IsAtEvent, outcome_from};
 ghost use Rattle.routine_vm.specs.Frames.{behind};
 ghost use Rattle.routine_vm.specs.Events.{piece_of};
 ghost use Rattle.routine_vm.specs.Held.{main_state, MayGoOn, event_at, IsTold, OpensBlocks};
@@ -20,7 +21,7 @@ use crate::run::Run;
 use crate::site::{InMain, InRoutine};
 use crate::taking::{take_items, take_widths};
 use crate::waiting::Waiting;
-use bytecode::{Module, PrintItem};
+use bytecode::{Instr, Module, PrintItem};
 use cal_base::{Cause, Image, NoMemory, RoutineEnd, Val, Words};
 use code_verify::Verified;
 use std::alloc::Global;
@@ -129,6 +130,23 @@ impl Machine {
                     total,
                 }
             }
+        }
+    }
+
+    /// Does main's next event, at which it is.
+    fn event(&mut self, m: &Module) -> MainEvent
+        requires verified { IsVerified m.now }
+        requires may { MayGoOn m.now self.old }
+        requires at { IsAtEvent (main_state m.now self.old (module_memory m.now)) }
+        requires items { self.old.items ≡ [] }
+        requires widths { self.old.widths ≡ [] }
+        ensures next { (memory : Memory) → machine.next m.now (main_state m.now self.old memory) ≡ Some (event_at m.now result self.new memory) }
+        ensures told { IsTold m.now result self.new }
+    {
+        match m.main.instrs.get(self.run.call.place as usize) {
+            Some(Instr::Print(line)) => self.show(m, line.as_slice()),
+            Some(Instr::Par(first, count)) => self.open(*first, *count),
+            _ => unreachable!(),
         }
     }
 }
