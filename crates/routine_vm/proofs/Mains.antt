@@ -39,7 +39,7 @@ use Rattle.routine_vm.specs.Events.{piece_of}
 use Rattle.routine_vm.specs.Held.{Held, main_state, MayGoOn, event_at, IsTold, OpensBlocks}
 use Rattle.routine_vm.proofs.There.{bind_there}
 use Rattle.routine_vm.proofs.Taken.{some_of}
-use Rattle.routine_vm.proofs.Ready.{has_room, place_fits}
+use Rattle.routine_vm.proofs.Ready.{outcome_at}
 
 module _ (m : Module) (ok : IsVerified m) where
   -- what main's run comes to
@@ -196,3 +196,33 @@ module _ (m : Module) (ok : IsVerified m) where
     told_of_step b n (Fault cause) later e opened = tt
     told_of_step b n (Par block blocks total) later e opened =
         (opened.2, opened.3, behind_step block later.widths later (ap (λ (f : Frame). f.body) opened.7 ∙ may.main) (opened_next b n (Par block blocks total) later (module_memory m) e opened))
+
+    -- what main's run comes to is what main means
+    pub meaning_of_outcome : (memory : Memory) (n : Next) → outcome_from m (main_state m h memory) ≡ Comes n
+        → (whole steps : ℕ) → main_of m whole steps (main_state m h memory) ≡ main_at m whole steps (λ more later. main_of m whole more later) (Some n)
+    meaning_of_outcome memory n e whole steps =
+        comes whole steps (most_steps m (main_state m h memory) + 1) (main_state m h memory) n (fits_at memory) (omega arith) e
+
+  -- main may go on from where it came to an event
+  pub may_from : (r : Run) (memory : Memory) (later : Held) → IsReady m r (Main memory) → RunsAbove m body.Main r → IsAtEvent (state_of m r (Main memory)) → later.call ≡ r.call → MayGoOn m later
+  may_from r memory later ready above at call = record {
+    main = ap (λ (f : Frame). f.body) call ∙ main_at_event r (Main memory) above at;
+    fits = rw call (record { owner = refl; call = ready.fits.call; waits = tt; few = omega arith });
+  }
+
+  not_on : (event : MainEvent) (later : Held) (memory : Memory) (s : State) → event_at m event later memory ≡ On s → ⊥
+  not_on (Print items) later memory s e = cc
+  not_on (Par first blocks total) later memory s e = cc
+  not_on Halt later memory s e = cc
+  not_on (Fault cause) later memory s e = cc
+
+  -- what main's run comes to at an event
+  pub event_outcome : (s : State) (r : Run) (memory : Memory) (event : MainEvent) (later : Held) → IsReady m r (Main memory) → r.waiting ≡ []
+      → outcome_from m s ≡ outcome_from m (state_of m r (Main memory))
+      → next m (record { call = call_of m r.call; callers = []; store = Main memory; fuel = r.fuel }) ≡ Some (event_at m event later memory)
+      → outcome_from m s ≡ Comes (event_at m event later memory)
+  event_outcome s r memory event later ready none same e =
+      same
+      ∙ outcome_at m ok r (Main memory) ready (event_at m event later memory)
+      (ap (λ (waiting : List Frame). next m (record { call = call_of m r.call; callers = map (call_of m) waiting; store = Main memory; fuel = r.fuel })) none ∙ e)
+      (λ s' is. not_on event later memory s' is)

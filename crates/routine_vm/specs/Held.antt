@@ -1,6 +1,8 @@
 -- What a machine keeps of main between its events.
 use Rattle.std.specs.Prelude.{◌≡◌, ℕ, suc, ℤ, pos, false, List, [], length, map, sum, Some, None, IsSome, ◌⊎◌}
 use Rattle.cal_base.specs.Memory.{Memory}
+use Rattle.cal_base.specs.Updates.{Written}
+use Rattle.cal_base.specs.declared.ends.RoutineEnd.{RoutineEnd}
 use Rattle.cal_base.specs.Printing.{line_of}
 use Rattle.cal_base.specs.Widths.{step_widths}
 use Rattle.cal_base.specs.declared.ends.Cause.TheVariants.{BadWidth, FuelSpent}
@@ -10,7 +12,7 @@ use Rattle.cal_base.specs.Main as outline
 use Rattle.bytecode.specs.declared.module.Module.{Module}
 use Rattle.machine_meaning.specs.Machine.{State, Next, Prints, Opens, Ends, Traps, many_numbers}
 use Rattle.machine_meaning.specs.Fitting.{Fits}
-use Rattle.machine_meaning.specs.Meaning.{module_memory}
+use Rattle.machine_meaning.specs.Meaning.{module_memory, Outcome}
 use Rattle.routine_vm.specs.declared.event.Item.{Item}
 use Rattle.routine_vm.specs.declared.event.MainEvent.{MainEvent}
 use Rattle.routine_vm.specs.declared.event.MainEvent.TheVariants.{Print, Par, Halt, Fault}
@@ -61,3 +63,8 @@ OpensBlocks first count before (Par block blocks total) later =
 OpensBlocks first count before (Fault cause) later =
     (later.fuel ≡ before.fuel) × (x : List ℤ × List Val) × (many_numbers count before.call.operands ≡ Some x)
     × (((cause ≡ BadWidth) × (step_widths x.0 ≡ None)) ⊎ ((cause ≡ FuelSpent) × (before.fuel ≡ 0) × IsSome (step_widths x.0)))
+
+-- a routine's run ended so, and left this written
+pub record IsOutcome (outcome : Outcome) (ending : RoutineEnd) (written : Written) : Type 0 where
+  pub ended : outcome.ending ≡ ending
+  pub wrote : outcome.written ≡ written

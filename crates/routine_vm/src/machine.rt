@@ -1,6 +1,6 @@
 //! The machine.
 
-ghost use Rattle.std.specs.Prelude.{◌≡◌, ◌<◌, ◌≤◌, ◌∷◌, ℕ, [], length, IfOk, IsSome, Some, slice_get, map, ◌+◌, ◌^◌};
+ghost use Rattle.std.specs.Prelude.{◌≡◌, ◌<◌, ◌≤◌, ◌∷◌, ℕ, [], length, IfOk, IsSome, Some, slice_get, slice_index_or, map, ◌+◌, ◌^◌};
 ghost use Rattle.std.specs.FinMap.{empty};
 ghost use Rattle.cal_base.specs.Memory.{Memory, kinds_of};
 ghost use Rattle.cal_base.specs.Pages.{IsLater};
@@ -11,7 +11,7 @@ ghost use Rattle.code_verify.specs.Rules.{IsVerified};
 ghost use Rattle.routine_vm.specs.Ready.{IsAtEvent, outcome_from};
 ghost use Rattle.routine_vm.specs.Frames.{behind};
 ghost use Rattle.routine_vm.specs.Events.{piece_of};
-ghost use Rattle.routine_vm.specs.Held.{main_state, MayGoOn, event_at, IsTold, OpensBlocks};
+ghost use Rattle.routine_vm.specs.Held.{main_state, MayGoOn, event_at, IsTold, OpensBlocks, IsOutcome};
 
 use crate::event::{Item, MainEvent};
 use crate::frame::{Body, Frame};
@@ -148,5 +148,64 @@ impl Machine {
             Some(Instr::Par(first, count)) => self.open(*first, *count),
             _ => unreachable!(),
         }
+    }
+
+    /// Goes on to main's next event.
+    pub fn run_main(&mut self, code: &Verified, image: &mut Image) -> MainEvent
+        requires may { MayGoOn code.now self.old }
+        requires kinds { kinds_of image.old.memory ≡ kinds_of (module_memory code.now) }
+        ensures event { outcome_from code.now (main_state code.now self.old image.old.memory) ≡ Comes (event_at code.now result self.new image.new.memory) }
+        ensures meaning { (whole steps : ℕ) → main_of code.now whole steps (main_state code.now self.old image.old.memory) ≡ main_at code.now whole steps (λ more later. main_of code.now whole more later) (Some (event_at code.now result self.new image.new.memory)) }
+        ensures told { IsTold code.now result self.new }
+        ensures later { IsLater image.old image.new }
+    {
+        self.items.clear();
+        self.widths.clear();
+        let m = code.module();
+        match go::<Image, InMain>(m, &mut self.run, image) {
+            Stop::Event => self.event(m),
+            Stop::Ends => {
+                self.run.waiting.clear();
+                MainEvent::Halt
+            }
+            Stop::Traps(cause) => {
+                self.run.waiting.clear();
+                MainEvent::Fault(cause)
+            }
+        }
+    }
+
+    /// Runs a routine of a block to its end, and leaves what it wrote in the words. Main's state is kept.
+    pub fn run_routine<M: Words>(
+        &mut self,
+        code: &Verified,
+        block: u32,
+        width: u32,
+        id: u32,
+        fuel: u32,
+        mem: &mut M,
+    ) -> RoutineEnd
+        requires block { block < length code.now.blocks }
+        requires id { id < width }
+        requires kinds { kinds_of (M.opening mem.old) ≡ kinds_of (module_memory code.now) }
+        requires written { M.written mem.old ≡ empty }
+        ensures outcome { IsOutcome (routine_outcome code.now (slice_index_or code.now.blocks block code.now.main) width id (M.opening mem.old) fuel) result (M.written mem.new) }
+        ensures opening { M.opening mem.new ≡ M.opening mem.old }
+        ensures main { self.new ≡ self.old }
+    {
+        let m = code.module();
+        mem::swap(&mut self.run.call, &mut self.apart);
+        let main_fuel = mem::replace(&mut self.run.fuel, fuel);
+        let given = [Val::Int(i64::from(width)), Val::Int(i64::from(id))];
+        self.run.call.begin(Body::Block(block), &m.blocks.as_slice()[block as usize], &given);
+        let end = match go::<M, InRoutine>(m, &mut self.run, mem) {
+            Stop::Ends => RoutineEnd::Ended,
+            Stop::Traps(cause) => RoutineEnd::Fault(cause),
+            Stop::Event => unreachable!(),
+        };
+        self.run.waiting.clear();
+        self.run.fuel = main_fuel;
+        mem::swap(&mut self.run.call, &mut self.apart);
+        end
     }
 }
