@@ -5,3 +5,4 @@ pub mod Calls
 pub mod Ready
 pub mod Taken
 pub mod Mains
+pub mod Routines
