@@ -14,3 +14,6 @@ mod site;
 mod step;
 mod taking;
 mod waiting;
+
+pub use event::{Item, MainEvent};
+pub use machine::Machine;
