@@ -2,7 +2,7 @@
 use Rattle.bytecode.specs.declared.module.Module.{Module}
 use Rattle.code_verify.specs.Rules.{IsVerified}
 use Rattle.machine_meaning.specs.Runs.{NeverStuck, EndsInTime, RoutinesEnd}
-use Rattle.machine_meaning.specs.Meaning.{MainGoesOn}
+use Rattle.machine_meaning.specs.Meaning.{MainGoesOn, MainComes}
 use Rattle.machine_meaning.specs.Reaching.{CallComposes, CallTraps}
 
 -- each state that a verified module's machine reaches has a next step
@@ -28,3 +28,7 @@ TrapsOfCalls = (m : Module) → CallTraps m
 -- a verified module's main goes on just where its steps lead
 abbrev pub MainOfVerifiedGoesOn : Type 0
 MainOfVerifiedGoesOn = (m : Module) → IsVerified m → MainGoesOn m
+
+-- a verified module's main goes on where its runs come to
+abbrev pub MainOfVerifiedComes : Type 0
+MainOfVerifiedComes = (m : Module) → IsVerified m → MainComes m

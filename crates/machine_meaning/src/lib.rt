@@ -2,7 +2,7 @@
 #![tactic(auto)]
 
 ghost use Rattle.machine_meaning.specs.Rows.{WorkedRows};
-ghost use Rattle.machine_meaning.specs.Laws.{VerifiedIsNeverStuck, VerifiedEndsInTime, RoutinesOfVerifiedEnd, CallsCompose, TrapsOfCalls, MainOfVerifiedGoesOn};
+ghost use Rattle.machine_meaning.specs.Laws.{VerifiedIsNeverStuck, VerifiedEndsInTime, RoutinesOfVerifiedEnd, CallsCompose, TrapsOfCalls, MainOfVerifiedGoesOn, MainOfVerifiedComes};
 
 /// The machine of a verified module never reaches a state without a next step: no test on operands, kinds, places or addresses fails.
 pub fn never_stuck()
@@ -32,6 +32,11 @@ pub fn call_traps()
 /// Main of a verified module goes on just where its steps lead: the meaning runs out of no bound.
 pub fn main_goes_on()
     ensures { MainOfVerifiedGoesOn }
+{}
+
+/// Main of a verified module goes on where its run comes to: to a line that it shows, to a step that it opens, or to its end.
+pub fn main_comes()
+    ensures { MainOfVerifiedComes }
 {}
 
 /// Small modules mean what they must.

@@ -6,3 +6,4 @@ pub mod Ready
 pub mod Taken
 pub mod Mains
 pub mod Routines
+pub mod Ascending

@@ -38,27 +38,10 @@ use Rattle.routine_vm.specs.Ready.{IsReady, IsAtEvent, outcome_from}
 use Rattle.routine_vm.specs.Events.{piece_of}
 use Rattle.routine_vm.specs.Held.{Held, main_state, MayGoOn, event_at, IsTold, OpensBlocks}
 use Rattle.routine_vm.proofs.There.{bind_there}
-use Rattle.routine_vm.proofs.Taken.{some_of}
+use Rattle.routine_vm.proofs.Taken.{some_of, few_routines}
 use Rattle.routine_vm.proofs.Ready.{outcome_at}
 
 module _ (m : Module) (ok : IsVerified m) where
-  -- what main's run comes to
-  pub comes : (whole steps k : ℕ) (s : State) (n : Next) → Fits m false s → most_steps m s < k → runs m k s ≡ Comes n
-      → main_of m whole steps s ≡ main_at m whole steps (λ more later. main_of m whole more later) (Some n)
-  comes whole steps zero s n fits lt e = absurd (omega arith)
-  comes whole steps (suc k) s n fits lt e =
-      goes.goes_on m ok whole steps s fits ∙ told (next m s) (next_good m ok false s fits) e (λ s' h e'. comes whole steps k s' n h.0 (omega (arith, h.1, lt)) e')
-    where
-      told : (o : Option Next) → Good false (Follows m false (function_runs m ok false) s) o → goes_on (runs m k) s o ≡ Comes n
-          → ((s' : State) → Follows m false (function_runs m ok false) s s' → runs m k s' ≡ Comes n → main_of m whole steps s' ≡ main_at m whole steps (λ more later. main_of m whole more later) (Some n))
-          → main_at m whole steps (λ more later. main_of m whole more later) o ≡ main_at m whole steps (λ more later. main_of m whole more later) (Some n)
-      told None g e more = absurd g
-      told (Some (On s')) g e more = more s' g e
-      told (Some (Prints line s')) g e more = let same : Prints line s' ≡ n = cc in ap (λ (x : Next). main_at m whole steps (λ more later. main_of m whole more later) (Some x)) same
-      told (Some (Opens first widths s')) g e more = let same : Opens first widths s' ≡ n = cc in ap (λ (x : Next). main_at m whole steps (λ more later. main_of m whole more later) (Some x)) same
-      told (Some (Ends store fuel)) g e more = let same : Ends store fuel ≡ n = cc in ap (λ (x : Next). main_at m whole steps (λ more later. main_of m whole more later) (Some x)) same
-      told (Some (Traps c store fuel)) g e more = let same : Traps c store fuel ≡ n = cc in ap (λ (x : Next). main_at m whole steps (λ more later. main_of m whole more later) (Some x)) same
-
   no_event : (x : Instr) → IsNotMains x → IsEvent x → ⊥
   no_event (i.Print items) not_mains event = not_mains
   no_event (i.Par b n) not_mains event = not_mains
@@ -195,13 +178,20 @@ module _ (m : Module) (ok : IsVerified m) where
     told_of_step b n Halt later e opened = tt
     told_of_step b n (Fault cause) later e opened = tt
     told_of_step b n (Par block blocks total) later e opened =
-        (opened.2, opened.3, behind_step block later.widths later (ap (λ (f : Frame). f.body) opened.7 ∙ may.main) (opened_next b n (Par block blocks total) later (module_memory m) e opened))
+        let within = (ok.main.each h.call.place (i.Par b n) e).1.2 in
+        record {
+          count = opened.2;
+          all = opened.3;
+          few = (let bound = few_routines later.widths opened.5 in omega (arith, opened.3, bound));
+          there = omega (arith, within, opened.0, opened.1);
+          may = behind_step block later.widths later (ap (λ (f : Frame). f.body) opened.7 ∙ may.main) (opened_next b n (Par block blocks total) later (module_memory m) e opened);
+        }
 
     -- what main's run comes to is what main means
     pub meaning_of_outcome : (memory : Memory) (n : Next) → outcome_from m (main_state m h memory) ≡ Comes n
         → (whole steps : ℕ) → main_of m whole steps (main_state m h memory) ≡ main_at m whole steps (λ more later. main_of m whole more later) (Some n)
     meaning_of_outcome memory n e whole steps =
-        comes whole steps (most_steps m (main_state m h memory) + 1) (main_state m h memory) n (fits_at memory) (omega arith) e
+        goes.comes m ok whole steps (most_steps m (main_state m h memory) + 1) (main_state m h memory) n (fits_at memory) (omega arith) e
 
   -- main may go on from where it came to an event
   pub may_from : (r : Run) (memory : Memory) (later : Held) → IsReady m r (Main memory) → RunsAbove m body.Main r → IsAtEvent (state_of m r (Main memory)) → later.call ≡ r.call → MayGoOn m later

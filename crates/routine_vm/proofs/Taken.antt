@@ -2,7 +2,7 @@
 use Rattle.std.proofs.Common.{◌≡◌, ℕ, zero, suc, ◌+◌, ◌-◌, ◌<◌, ◌≤◌, Bool, true, false, cond, List, [], ◌∷◌, ◌++◌, length, map, sum, Option, Some, None, inl, inr, ⊎_elim, refl, sym, ap, ◌∙◌, subst, arith, append_assoc}
 use Rattle.std.specs.Prelude.{IsSome, slice_get, ℤ, pos, negsuc, ◌⊎◌}
 use Rattle.std.proofs.lemmas.List.Sums.{sum_by-cons}
-use Rattle.std.proofs.lemmas.Bool.{le-leb}
+use Rattle.std.proofs.lemmas.Bool.{le-leb, leb-true}
 use Rattle.std.proofs.lemmas.Bool.Decides.{leb_tells}
 use Rattle.std.proofs.Math.Dec.{leb}
 use Rattle.cal_base.specs.declared.value.Val.{Val}
@@ -140,3 +140,11 @@ too_many (Some ns) h = ap (λ (b : Bool). cond b (Some ns) None) (lt-leb (sum ns
 pub bad_widths : (front : List ℤ) (z : ℤ) (ws : List ℕ) → WidthBeside (sum ws) z None → step_widths (front ++ z ∷ map pos ws) ≡ None
 bad_widths front (negsuc n) ws h = ap unless_too_many (natural_none front (negsuc n ∷ map pos ws) refl)
 bad_widths front (pos n) ws h = too_many (naturals (front ++ pos n ∷ map pos ws)) (at_least front (pos n ∷ map pos ws) 65537 (rw (natural_all ws) (let more = sum_by-cons (λ x. x) n ws in omega (arith, h, more))))
+
+-- widths of a step make few routines
+pub few_routines : (ws : List ℕ) → step_widths (map pos ws) ≡ Some ws → sum ws ≤ 65536
+few_routines ws e = told (leb (sum ws) 65536) refl (sym (ap unless_too_many (natural_all ws)) ∙ e)
+  where
+    told : (b : Bool) → leb (sum ws) 65536 ≡ b → cond b (Some ws) None ≡ Some ws → sum ws ≤ 65536
+    told true is e = leb-true (sum ws) 65536 is
+    told false is e = absurd cc

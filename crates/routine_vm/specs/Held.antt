@@ -1,5 +1,5 @@
 -- What a machine keeps of main between its events.
-use Rattle.std.specs.Prelude.{◌≡◌, ℕ, suc, ℤ, pos, false, List, [], length, map, sum, Some, None, IsSome, ◌⊎◌}
+use Rattle.std.specs.Prelude.{◌≡◌, ℕ, suc, ◌+◌, ◌≤◌, ℤ, pos, false, List, [], length, map, sum, Some, None, IsSome, ◌⊎◌}
 use Rattle.cal_base.specs.Memory.{Memory}
 use Rattle.cal_base.specs.Updates.{Written}
 use Rattle.cal_base.specs.declared.ends.RoutineEnd.{RoutineEnd}
@@ -45,10 +45,18 @@ event_at m (Par first blocks total) h memory = Opens first h.widths (main_state 
 event_at m Halt h memory = Ends (Main memory) h.fuel
 event_at m (Fault cause) h memory = Traps cause (Main memory) h.fuel
 
--- the event tells how many parts it has, and main goes on behind it unless it has ended
+-- a step is told: its blocks, which are there, and its routines
+pub record TellsStep (m : Module) (first blocks total : ℕ) (h : Held) : Type 0 where
+  pub count : blocks ≡ length h.widths
+  pub all : total ≡ sum h.widths
+  pub few : total ≤ 65536
+  pub there : first + blocks ≤ length m.blocks
+  pub may : MayGoOn m h
+
+-- the event tells its parts, and main may go on behind it unless it has ended
 abbrev pub IsTold : Module → MainEvent → Held → Type 0
 IsTold m (Print items) h = (items ≡ length h.items) × MayGoOn m h
-IsTold m (Par first blocks total) h = (blocks ≡ length h.widths) × (total ≡ sum h.widths) × MayGoOn m h
+IsTold m (Par first blocks total) h = TellsStep m first blocks total h
 IsTold m Halt h = Unit {0}
 IsTold m (Fault cause) h = Unit {0}
 

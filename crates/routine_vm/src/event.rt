@@ -6,7 +6,9 @@ use cal_base::Cause;
 #[derive(Clone, Copy, PartialEq, Eq, Debug)]
 pub enum MainEvent {
     /// It shows a line of this many items.
-    Print { items: u32 },
+    Print {
+        items: u32,
+    },
     /// It opens a step of these blocks, with this many routines in all.
     Par {
         first_block: u32,

@@ -82,6 +82,9 @@ impl Frame {
         self.operands.clear();
         self.locals.clear();
         push_given(&mut self.locals, given);
-        push_first(&mut self.locals, &code.locals.as_slice()[usize::from(code.params)..]);
+        push_first(
+            &mut self.locals,
+            &code.locals.as_slice()[usize::from(code.params)..],
+        );
     }
 }

@@ -5,6 +5,7 @@ mod arithmetic;
 pub mod event;
 mod frame;
 mod go;
+mod image;
 mod locals;
 pub mod machine;
 mod operands;
@@ -16,4 +17,8 @@ mod taking;
 mod waiting;
 
 pub use event::{Item, MainEvent};
+pub use image::first_image;
 pub use machine::Machine;
+
+#[cfg(test)]
+mod tests;

@@ -197,7 +197,11 @@ impl Machine {
         mem::swap(&mut self.run.call, &mut self.apart);
         let main_fuel = mem::replace(&mut self.run.fuel, fuel);
         let given = [Val::Int(i64::from(width)), Val::Int(i64::from(id))];
-        self.run.call.begin(Body::Block(block), &m.blocks.as_slice()[block as usize], &given);
+        self.run.call.begin(
+            Body::Block(block),
+            &m.blocks.as_slice()[block as usize],
+            &given,
+        );
         let end = match go::<M, InRoutine>(m, &mut self.run, mem) {
             Stop::Ends => RoutineEnd::Ended,
             Stop::Traps(cause) => RoutineEnd::Fault(cause),

@@ -75,12 +75,7 @@ fn read<W, S: Site<W>>(run: &mut Run, words: &mut W, a: u32) -> Led
 }
 
 /// Writes a word and goes on, or traps.
-fn write<W, S: Site<W>>(
-    run: &mut Run,
-    words: &mut W,
-    a: u32,
-    value: Result<i64, Cause>,
-) -> Led
+fn write<W, S: Site<W>>(run: &mut Run, words: &mut W, a: u32, value: Result<i64, Cause>) -> Led
     requires word { MayUse (S.store words.old) a }
     requires place { run.old.call.place + 1 < 2 ^ 32 }
     ensures written { Leaves (S.store words.old) run.old (machine.writes (S.store words.old) a value) result (S.store words.new) run.new }

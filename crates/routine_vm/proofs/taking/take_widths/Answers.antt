@@ -18,11 +18,10 @@ returns-in-None-clause-widths c =
     let e = ap (λ (n : ℕ). many_numbers n ops) one ∙ numbers_last left ops c.number.new.self z c.number.ensures in
     let there = more_there (z ∷ []) (many_numbers left c.number.new.self) (subst (λ (o : Option _). IsSome o) e i.there) in
     let y = some_of (many_numbers left c.number.new.self) there in
-    let bad : WidthBeside c.loop.total z None = rw (to_z-of_z w64 z (search rules)) at c.in-None.ensures in
-    (
+    let bad : WidthBeside c.loop.total z None = rw (to_z-of_z w64 z (search rules)) at c.in-None.ensures in (
       (y.0.0 ++ z ∷ map pos c.loop.widths, y.0.1),
       i.behind ∙ ap (λ (o : Option _). with_more (map pos c.loop.widths) o) e ∙ more_more z (map pos c.loop.widths) (many_numbers left c.number.new.self) ∙ ap (λ (o : Option _). with_more (z ∷ map pos c.loop.widths) o) y.1,
-      bad_widths y.0.0 z c.loop.widths (subst (λ (n : ℕ). WidthBeside n z None) i.total bad)
+      bad_widths y.0.0 z c.loop.widths (subst (λ (n : ℕ). WidthBeside n z None) i.total bad),
     )
 
 pub loop-preserved : goal.loop-preserved
