@@ -1,5 +1,5 @@
 -- Calls of functions.
-use Rattle.std.proofs.Common.{◌≡◌, ℕ, zero, suc, ◌≤◌, ◌==◌, Bool, true, false, cond, List, [], ◌∷◌, length, take, drop, reverse, map, Option, Some, None, refl, sym, ap, ◌∙◌, subst, arith}
+use Rattle.std.proofs.Common.{◌≡◌, ℕ, zero, suc, ◌≤◌, ◌==◌, Bool, true, false, cond, List, [], ◌∷◌, length, take, drop, reverse, map, Option, Some, None, refl, ap, ◌∙◌, arith}
 use Rattle.std.specs.Prelude.{IsSome, slice_get}
 use Rattle.std.proofs.lemmas.List.{length-map, length-reverse, length-take-le}
 use Rattle.std.proofs.lemmas.Option.{get_or_from_slice_get}
@@ -12,7 +12,7 @@ use Rattle.bytecode.specs.declared.module.Module.{Module}
 use Rattle.bytecode.specs.declared.module.Ty.{Ty}
 use Rattle.code_verify.specs.Kinds.{same_kind}
 use Rattle.code_verify.specs.Rules.{HasShape}
-use Rattle.machine_meaning.specs.Machine.{◌>>=◌, kind_of, split, Call, State, On, Traps, calls, spends, enters, begun, on_with, most_callers}
+use Rattle.machine_meaning.specs.Machine.{◌>>=◌, kind_of, split, State, On, Traps, calls, spends, enters, begun, on_with, most_callers}
 use Rattle.routine_vm.specs.declared.frame.Body.TheVariants.{Function}
 use Rattle.routine_vm.specs.declared.frame.Frame.{Frame}
 use Rattle.routine_vm.specs.declared.run.Run.{Run}

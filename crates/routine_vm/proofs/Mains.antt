@@ -1,12 +1,11 @@
 -- Main between its events.
-use Rattle.std.proofs.Common.{◌≡◌, ℕ, zero, suc, ◌+◌, ◌<◌, ◌≤◌, Bool, true, false, cond, List, [], ◌∷◌, length, map, sum, Option, Some, None, inl, inr, ⊎_elim, refl, sym, ap, ◌∙◌, subst, arith}
-use Rattle.std.specs.Prelude.{IsSome, slice_get, ℤ, pos, ◌⊎◌}
+use Rattle.std.proofs.Common.{◌≡◌, ℕ, ◌+◌, ◌≤◌, Bool, false, cond, List, [], ◌∷◌, length, map, Option, Some, None, ⊎_elim, refl, sym, ap, ◌∙◌, subst, arith}
+use Rattle.std.specs.Prelude.{IsSome, slice_get, ℤ, pos}
 use Rattle.std.proofs.lemmas.Bool.{le-ltb}
 use Rattle.std.proofs.lemmas.Option.{slice_get-get_or}
 use Rattle.cal_base.specs.Memory.{Memory, kinds_of}
 use Rattle.cal_base.specs.Printing.{line_of}
 use Rattle.cal_base.specs.Widths.{step_widths}
-use Rattle.cal_base.specs.Main as outline
 use Rattle.cal_base.specs.declared.ends.Cause.{Cause}
 use Rattle.cal_base.specs.declared.ends.Cause.TheVariants.{BadWidth, FuelSpent}
 use Rattle.cal_base.specs.declared.value.Val.{Val}
@@ -17,9 +16,9 @@ use Rattle.bytecode.specs.declared.instr.Instr.{Instr}
 use Rattle.bytecode.specs.declared.instr.Instr.TheVariants as i
 use Rattle.bytecode.specs.declared.module.Code.{Code}
 use Rattle.bytecode.specs.declared.module.Module.{Module}
-use Rattle.code_verify.specs.Rules.{Stands, IsVerified, IsNotMains, IsPlainArray, MayStandInMain}
-use Rattle.machine_meaning.specs.Machine.{◌>>=◌, State, Next, On, Prints, Opens, Ends, Traps, on_with, opens, spends, pieces, many_numbers, step, next}
-use Rattle.machine_meaning.specs.Runs.{Comes, goes_on, runs, most_steps}
+use Rattle.code_verify.specs.Rules.{Stands, IsVerified, IsNotMains}
+use Rattle.machine_meaning.specs.Machine.{◌>>=◌, State, Next, On, Prints, Opens, Traps, on_with, opens, spends, pieces, many_numbers, step, next}
+use Rattle.machine_meaning.specs.Runs.{Comes, most_steps}
 use Rattle.machine_meaning.specs.Fitting.{Fits}
 use Rattle.machine_meaning.specs.Meaning.{module_memory, main_of, main_at}
 use Rattle.machine_meaning.proofs.Steps.{Good, Follows}
@@ -32,7 +31,7 @@ use Rattle.routine_vm.specs.declared.frame.Body.TheVariants as body
 use Rattle.routine_vm.specs.declared.frame.Frame.{Frame}
 use Rattle.routine_vm.specs.declared.run.Run.{Run}
 use Rattle.routine_vm.specs.Frames.{behind}
-use Rattle.routine_vm.specs.States.{HasBody, HasWordsOf, RunsAbove, Stacked, bodies_of, code_of, call_of, state_of}
+use Rattle.routine_vm.specs.States.{RunsAbove, Stacked, bodies_of, code_of, call_of, state_of}
 use Rattle.routine_vm.specs.Steps.{IsEvent}
 use Rattle.routine_vm.specs.Ready.{IsReady, IsAtEvent, outcome_from}
 use Rattle.routine_vm.specs.Events.{piece_of}

@@ -3,7 +3,7 @@ use Rattle.std.proofs.Common.{◌≡◌, ℕ, zero, suc, ◌+◌, ◌<◌, ◌�
 use Rattle.std.specs.Prelude.{IsSome, slice_get, ◌⊎◌}
 use Rattle.std.specs.List.{AllByRecursion}
 use Rattle.std.proofs.lemmas.List.{length-map}
-use Rattle.std.proofs.lemmas.Option.{slice_get_within, slice_get-get_or}
+use Rattle.std.proofs.lemmas.Option.{slice_get_within}
 use Rattle.cal_base.specs.Memory.{kinds_of}
 use Rattle.cal_base.specs.declared.value.Store.{Store}
 use Rattle.cal_base.specs.Stores.{memory_in}
@@ -13,7 +13,7 @@ use Rattle.bytecode.specs.declared.module.Code.{Code}
 use Rattle.bytecode.specs.declared.module.Gives.{Gives}
 use Rattle.bytecode.specs.declared.module.Module.{Module}
 use Rattle.code_verify.specs.Kinds.{Kinds, result}
-use Rattle.code_verify.specs.Rules.{Stands, IsVerified, most_operands}
+use Rattle.code_verify.specs.Rules.{IsVerified}
 use Rattle.machine_meaning.specs.Machine.{◌>>=◌, kind_of, in_routine, Call, State, Next, On, Prints, Opens, Ends, Traps, step, next}
 use Rattle.machine_meaning.specs.Runs.{Comes, goes_on, runs, most_steps}
 use Rattle.machine_meaning.specs.Fitting.{IsOf, IsCall, Wait, Fits}

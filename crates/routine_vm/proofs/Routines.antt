@@ -1,5 +1,5 @@
 -- Routines.
-use Rattle.std.proofs.Common.{◌≡◌, ℕ, ◌+◌, ◌<◌, ◌≤◌, Bool, true, false, List, [], ◌∷◌, length, Option, Some, refl, sym, ap, ◌∙◌, subst, arith}
+use Rattle.std.proofs.Common.{◌≡◌, ℕ, ◌<◌, true, List, [], ◌∷◌, length, Some, refl, sym, ap, ◌∙◌, subst}
 use Rattle.std.specs.Prelude.{slice_get, slice_index_or, pos}
 use Rattle.std.specs.FinMap.{empty}
 use Rattle.std.proofs.lemmas.Option.{slice_get-get_or, slice_get_within, get_or_from_slice_get}
@@ -7,25 +7,23 @@ use Rattle.cal_base.specs.Memory.{Memory, kinds_of}
 use Rattle.cal_base.specs.Updates.{Written}
 use Rattle.cal_base.specs.declared.value.Val.{Val}
 use Rattle.cal_base.specs.declared.value.Val.TheVariants.{Int}
-use Rattle.cal_base.specs.declared.value.Store.{Store}
 use Rattle.cal_base.specs.declared.value.Store.TheVariants.{Routine}
 use Rattle.bytecode.specs.declared.instr.Instr.{Instr}
 use Rattle.bytecode.specs.declared.instr.Instr.TheVariants as i
 use Rattle.bytecode.specs.declared.module.Code.{Code}
 use Rattle.bytecode.specs.declared.module.Module.{Module}
 use Rattle.code_verify.specs.Rules.{IsVerified, HasShape}
-use Rattle.machine_meaning.specs.Machine.{State, in_routine}
-use Rattle.machine_meaning.specs.Runs.{Comes, routine_beginning}
+use Rattle.machine_meaning.specs.Machine.{State}
+use Rattle.machine_meaning.specs.Runs.{routine_beginning}
 use Rattle.machine_meaning.specs.Fitting.{MayRun, Fits}
-use Rattle.machine_meaning.specs.Meaning.{module_memory, outcome_of, routine_outcome}
+use Rattle.machine_meaning.specs.Meaning.{module_memory}
 use Rattle.machine_meaning.proofs.Never.{routine_fits}
 use Rattle.routine_vm.specs.declared.frame.Body.TheVariants as body
-use Rattle.routine_vm.specs.declared.frame.Frame.{Frame}
 use Rattle.routine_vm.specs.declared.run.Run.{Run}
 use Rattle.routine_vm.specs.Frames.{begun_frame}
 use Rattle.routine_vm.specs.States.{state_of}
 use Rattle.routine_vm.specs.Steps.{IsEvent}
-use Rattle.routine_vm.specs.Ready.{IsReady, IsAtEvent, outcome_from}
+use Rattle.routine_vm.specs.Ready.{IsReady, IsAtEvent}
 
 -- the entry at an index that is there
 pub block_there : (blocks : List Code) (b : ℕ) (c : Code) → b < length blocks → c ≡ slice_index_or blocks b c → slice_get blocks b ≡ Some c

@@ -1,8 +1,8 @@
 -- What it says of an instruction that there is a next step.
-use Rattle.std.proofs.Common.{◌≡◌, ℕ, Bool, true, false, cond, ltb, Option, Some, None, refl, sym}
-use Rattle.std.specs.Prelude.{IsSome, ℤ, ◌+◌}
+use Rattle.std.proofs.Common.{◌≡◌, ℕ, Bool, true, false, cond, Option, Some, None, refl, sym}
+use Rattle.std.specs.Prelude.{IsSome}
 use Rattle.bytecode.specs.declared.module.Module.{Module}
-use Rattle.machine_meaning.specs.Machine.{◌>>=◌, State, Next, may_use, using, at_item, item_at}
+use Rattle.machine_meaning.specs.Machine.{◌>>=◌, State, Next, may_use, using, at_item}
 
 pub bind_there : {A B : Type 0} (o : Option A) (f : A → Option B) → IsSome (o >>= f) → IsSome o
 bind_there (Some a) f h = refl

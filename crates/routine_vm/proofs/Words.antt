@@ -1,8 +1,8 @@
 -- Words that may be read and set.
-use Rattle.std.proofs.Common.{◌≡◌, ℕ, zero, suc, ◌+◌, ◌<◌, Bool, true, false, not, ltb, cond, List, [], ◌∷◌, length, Option, Some, None, refl, sym, ap, zero-add, subst, ◌∙◌, arith, map}
-use Rattle.std.specs.Prelude.{◌&&◌, slice_get, IsTrue}
+use Rattle.std.proofs.Common.{◌≡◌, ℕ, zero, suc, ◌+◌, ◌<◌, Bool, true, false, not, ltb, cond, List, length, Option, Some, refl, sym, ap, zero-add, subst, ◌∙◌, arith}
+use Rattle.std.specs.Prelude.{◌&&◌, slice_get}
 use Rattle.std.specs.Option.{option_map, option_map_or}
-use Rattle.std.specs.List.{list_any, range_with_len}
+use Rattle.std.specs.List.{range_with_len}
 use Rattle.std.proofs.lemmas.Bool.{ltb-true}
 use Rattle.std.proofs.lemmas.List.{length-map}
 use Rattle.std.proofs.lemmas.List.FromFn.{length-range_with_len}
@@ -11,7 +11,7 @@ use Rattle.cal_base.specs.declared.step.WordKind.{WordKind}
 use Rattle.cal_base.specs.declared.step.WordKind.TheVariants.{Ordinary, Tally}
 use Rattle.cal_base.specs.declared.value.Store.{Store}
 use Rattle.cal_base.specs.declared.step.Word.{Word}
-use Rattle.cal_base.specs.Memory.{Memory, kinds_of, is_ordinary, has_one_writer}
+use Rattle.cal_base.specs.Memory.{kinds_of, is_ordinary, has_one_writer}
 use Rattle.cal_base.specs.Pages.{first_kind, first_value}
 use Rattle.cal_base.specs.Stores.{memory_in}
 use Rattle.bytecode.specs.declared.module.Module.{Module}

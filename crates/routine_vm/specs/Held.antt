@@ -8,7 +8,6 @@ use Rattle.cal_base.specs.Widths.{step_widths}
 use Rattle.cal_base.specs.declared.ends.Cause.TheVariants.{BadWidth, FuelSpent}
 use Rattle.cal_base.specs.declared.value.Val.{Val}
 use Rattle.cal_base.specs.declared.value.Store.TheVariants.{Main}
-use Rattle.cal_base.specs.Main as outline
 use Rattle.bytecode.specs.declared.module.Module.{Module}
 use Rattle.machine_meaning.specs.Machine.{State, Next, Prints, Opens, Ends, Traps, many_numbers}
 use Rattle.machine_meaning.specs.Fitting.{Fits}

@@ -1,10 +1,10 @@
 -- Runs of the machine up to where they stop.
-use Rattle.std.specs.Prelude.{◌≡◌, ℕ, ◌+◌, Some, slice_get}
+use Rattle.std.specs.Prelude.{◌≡◌, ◌+◌, Some}
 use Rattle.cal_base.specs.declared.value.Store.{Store}
 use Rattle.bytecode.specs.declared.instr.Instr.{Instr}
 use Rattle.bytecode.specs.declared.module.Module.{Module}
 use Rattle.code_verify.specs.Rules.{Stands}
-use Rattle.machine_meaning.specs.Machine.{State, Next, On, Ends, Traps, next, in_routine}
+use Rattle.machine_meaning.specs.Machine.{State, On, Ends, Traps, next, in_routine}
 use Rattle.machine_meaning.specs.Runs as machine
 use Rattle.machine_meaning.specs.Runs.{Comes, runs, most_steps}
 use Rattle.machine_meaning.specs.Fitting.{Fits}

@@ -1,7 +1,6 @@
 -- What runs in the machine, seen as a state of the module's machine.
-use Rattle.std.specs.Prelude.{◌≡◌, ℕ, ◌<◌, Bool, List, [], ◌∷◌, length, map, slice_index_or}
+use Rattle.std.specs.Prelude.{◌≡◌, ℕ, ◌<◌, List, [], ◌∷◌, length, map, slice_index_or}
 use Rattle.cal_base.specs.Memory.{kinds_of}
-use Rattle.cal_base.specs.Pages.{first_memory}
 use Rattle.cal_base.specs.declared.value.Store.{Store}
 use Rattle.cal_base.specs.Stores.{memory_in}
 use Rattle.bytecode.specs.declared.module.Code.{Code}

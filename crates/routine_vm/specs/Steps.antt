@@ -1,5 +1,5 @@
 -- What a step of the machine does, and where it stops.
-use Rattle.std.specs.Prelude.{◌≡◌, ℕ, zero, suc, ◌+◌, ◌≤◌, ◌==◌, Bool, true, false, [], ◌∷◌, ◌++◌, ℤ, Option, Some, None, Result, Ok, Err, List, length, slice_get, reverse, take, drop}
+use Rattle.std.specs.Prelude.{◌≡◌, ℕ, zero, suc, ◌≤◌, ◌==◌, Bool, true, false, [], ◌∷◌, ◌++◌, ℤ, Option, Some, None, Result, Ok, Err, List, length, slice_get, reverse, take, drop}
 use Rattle.std.specs.List.{AllByRecursion}
 use Rattle.cal_base.specs.declared.ends.Cause.{Cause}
 use Rattle.cal_base.specs.declared.ends.Cause.TheVariants.{TooDeep, FuelSpent}

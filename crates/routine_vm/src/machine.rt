@@ -17,7 +17,7 @@ use crate::event::{Item, MainEvent};
 use crate::frame::{Body, Frame};
 use crate::go::{Stop, go};
 use crate::parts::Parts;
-use crate::run::Run;
+use crate::run::{Run, spend};
 use crate::site::{InMain, InRoutine};
 use crate::taking::{take_items, take_widths};
 use crate::waiting::Waiting;
@@ -119,10 +119,9 @@ impl Machine {
         match take_widths(count, &mut self.run.call.operands, &mut self.widths) {
             None => MainEvent::Fault(Cause::BadWidth),
             Some(total) => {
-                if self.run.fuel == 0 {
+                if !spend(&mut self.run.fuel) {
                     return MainEvent::Fault(Cause::FuelSpent);
                 }
-                self.run.fuel -= 1;
                 self.run.call.place += 1;
                 MainEvent::Par {
                     first_block: first,

@@ -1,5 +1,7 @@
 //! What runs, and where its steps lead.
 
+ghost use Rattle.routine_vm.specs.Frames.{Spends};
+
 use crate::frame::Frame;
 use crate::waiting::Waiting;
 use cal_base::Cause;
@@ -22,4 +24,15 @@ pub enum Led {
     Traps(Cause),
     /// Nowhere yet: the instruction shows a line or opens a step.
     Event,
+}
+
+/// Takes one unit of fuel, if there is one.
+pub fn spend(fuel: &mut u32) -> bool
+    ensures { Spends fuel.old result fuel.new }
+{
+    if *fuel == 0 {
+        return false;
+    }
+    *fuel -= 1;
+    true
 }

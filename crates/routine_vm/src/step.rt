@@ -12,7 +12,7 @@ ghost use Rattle.routine_vm.specs.Steps.{Steps, Pushes, Leaves, Calls, GivesBack
 
 use crate::arithmetic::{difference, item_at, negative, product, quotient, remainder, sum};
 use crate::frame::Frame;
-use crate::run::{Led, Run};
+use crate::run::{Led, Run, spend};
 use crate::site::Site;
 use bytecode::{Code, Gives, Instr, Module};
 use cal_base::{Cause, Overflow, Val};
@@ -113,10 +113,9 @@ fn call(run: &mut Run, number: u32, function: &Code) -> Led
     ensures calls { Calls number function.now run.old result run.new }
     ensures bodies { (m : Module) (bottom : Body) → number < length m.functions → RunsAbove m bottom run.old → RunsAbove m bottom run.new }
 {
-    if run.fuel == 0 {
+    if !spend(&mut run.fuel) {
         return Led::Traps(Cause::FuelSpent);
     }
-    run.fuel -= 1;
     if run.waiting.len() == 64 {
         return Led::Traps(Cause::TooDeep);
     }
@@ -255,11 +254,11 @@ pub fn perform<W, S: Site<W>>(
             }
         }
         Instr::AddItem(b, n) => {
-            let (x, z) = run.call.operands.numbers();
+            let (x, more) = run.call.operands.numbers();
             match item_at(*b, *n, x) {
                 Some(a) => {
                     let old = S::read(words, a);
-                    write::<W, S>(run, words, a, sum(old, z))
+                    write::<W, S>(run, words, a, sum(old, more))
                 }
                 None => Led::Traps(Cause::OutOfRange),
             }
@@ -273,11 +272,11 @@ pub fn perform<W, S: Site<W>>(
             }
         }
         Instr::Loop(t) => {
-            if run.fuel == 0 {
-                return Led::Traps(Cause::FuelSpent);
+            if spend(&mut run.fuel) {
+                jump(&mut run.call, *t)
+            } else {
+                Led::Traps(Cause::FuelSpent)
             }
-            run.fuel -= 1;
-            jump(&mut run.call, *t)
         }
         Instr::Call(f) => match m.functions.get(*f as usize) {
             Some(function) => call(run, *f, function),
@@ -289,7 +288,8 @@ pub fn perform<W, S: Site<W>>(
             on(&mut run.call)
         }
         Instr::Assert => {
-            if run.call.operands.truth() {
+            let holds = run.call.operands.truth();
+            if holds {
                 on(&mut run.call)
             } else {
                 Led::Traps(Cause::Assertion)

@@ -1,4 +1,4 @@
-use Rattle.std.proofs.Common.{◌≡◌, ◌∙◌, ◌<◌, length, Option, None, sym, ap, arith}
+use Rattle.std.proofs.Common.{◌∙◌, ◌<◌, length, None, sym, ap, arith}
 use Rattle.std.specs.FinMap.{get}
 use Rattle.plain_words.specs.Own.{Own}
 use Rattle.plain_words.proofs.Entries.{get_own, same_default}

@@ -1,8 +1,8 @@
-use Rattle.std.proofs.Common.{◌≡◌, ◌≤◌, ◌<◌, ◌∙◌, ◌^◌, ℕ, length, None, ap, sym, subst, ⊎_elim, arith}
+use Rattle.std.proofs.Common.{◌≤◌, ◌<◌, ◌∙◌, ◌^◌, length, ap, sym, subst, ⊎_elim, arith}
 use Rattle.std.proofs.lemmas.Bool.{cases_lt}
 use Rattle.std.specs.FinMap.{get}
-use Rattle.cal_base.specs.Updates.{Written, IsBelow}
-use Rattle.plain_words.specs.Own.{Own, own_from}
+use Rattle.cal_base.specs.Updates.{IsBelow}
+use Rattle.plain_words.specs.Own.{Own}
 use Rattle.plain_words.proofs.Entries.{own_below, own_past}
 use Rattle.plain_words.proofs.PlainWordsUpdateWords.next_from.Goals as goal
 

@@ -1,9 +1,6 @@
-use Rattle.std.proofs.Common.{◌≡◌, ◌∙◌, ap, sym, arith}
-use Rattle.cal_base.specs.declared.ends.Cause.{Cause}
-use Rattle.bytecode.specs.declared.module.Module.{Module}
-use Rattle.machine_meaning.specs.Machine.{State, Ends, Traps}
+use Rattle.std.proofs.Common.{◌∙◌}
+use Rattle.machine_meaning.specs.Machine.{Ends, Traps}
 use Rattle.routine_vm.specs.States.{state_of}
-use Rattle.routine_vm.specs.Ready.{outcome_from}
 use Rattle.routine_vm.proofs.Ready.{fewer, ready_on, ready_still, outcome_on, outcome_at}
 use Rattle.routine_vm.proofs.go.go.Goals as goal
 

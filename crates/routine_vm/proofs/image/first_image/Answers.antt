@@ -1,6 +1,5 @@
-use Rattle.std.proofs.Common.{ℕ, List, map, sym, subst}
+use Rattle.std.proofs.Common.{map, sym, subst}
 use Rattle.std.specs.List.Sorted.{IsStrictlyIncreasing}
-use Rattle.bytecode.specs.declared.module.Module.{Module}
 use Rattle.code_verify.specs.Rules.{IsVerified}
 use Rattle.routine_vm.proofs.Ascending.{ascending}
 use Rattle.routine_vm.proofs.image.first_image.Goals as goal

@@ -1,4 +1,4 @@
-use Rattle.std.proofs.Common.{rules, subst, w64, ◌≡◌, ◌≤◌, ◌<◌, List, length, Option, Some, sym, ap, ◌∙◌, arith, ltb, true}
+use Rattle.std.proofs.Common.{rules, subst, w64, sym, arith, ltb}
 use Rattle.std.proofs.lemmas.Bool.{ltb-true}
 use Rattle.std.proofs.lemmas.Int.{to_z-of_z}
 use Rattle.std.proofs.lemmas.Option.{slice_get_within}

@@ -1,4 +1,4 @@
-use Rattle.std.proofs.Common.{◌≡◌, ◌∙◌, List, [], ◌∷◌, Option, map, ap, subst, arith}
+use Rattle.std.proofs.Common.{◌∙◌, List, [], ◌∷◌, Option, map, ap, subst, arith}
 use Rattle.std.specs.Prelude.{IsSome}
 use Rattle.bytecode.specs.declared.instr.PrintItem.{PrintItem}
 use Rattle.machine_meaning.specs.Machine.{pieces}

@@ -1,10 +1,9 @@
-use Rattle.std.proofs.Common.{◌≡◌, ◌≤◌, ◌∙◌, ◌+◌, ◌-◌, ℕ, suc, List, [], ◌∷◌, ◌++◌, Option, Some, None, map, sum, ap, sym, subst, arith, rules, w64}
-use Rattle.std.specs.Prelude.{IsSome, ℤ, pos}
+use Rattle.std.proofs.Common.{◌≡◌, ◌∙◌, ◌+◌, ◌-◌, ℕ, suc, [], ◌∷◌, ◌++◌, Option, Some, None, map, ap, sym, subst, arith, rules, w64}
+use Rattle.std.specs.Prelude.{IsSome, pos}
 use Rattle.std.proofs.lemmas.Int.{to_z-of_z}
 use Rattle.std.proofs.lemmas.List.Sums.{sum_by-cons}
 use Rattle.machine_meaning.specs.Machine.{many_numbers}
 use Rattle.routine_vm.specs.Events.{WidthBeside}
-use Rattle.routine_vm.proofs.There.{bind_there}
 use Rattle.routine_vm.proofs.Taken.{with_more, more_there, more_more, some_of, numbers_last, good_widths, bad_widths}
 use Rattle.routine_vm.proofs.taking.take_widths.Goals as goal
 

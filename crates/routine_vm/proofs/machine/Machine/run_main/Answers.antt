@@ -1,8 +1,8 @@
-use Rattle.std.proofs.Common.{◌≡◌, ◌∙◌, ℕ, List, [], Option, Some, map, refl, ap, sym, subst}
+use Rattle.std.proofs.Common.{◌≡◌, ◌∙◌, List, map, refl, ap, sym, subst}
 use Rattle.cal_base.specs.declared.value.Store.TheVariants.{Main}
 use Rattle.bytecode.specs.declared.module.Module.{Module}
 use Rattle.code_verify.specs.Rules.{IsVerified}
-use Rattle.machine_meaning.specs.Machine.{State, Ends, Traps}
+use Rattle.machine_meaning.specs.Machine.{Ends, Traps}
 use Rattle.machine_meaning.specs.Runs.{Comes}
 use Rattle.routine_vm.specs.declared.frame.Body.TheVariants as body
 use Rattle.routine_vm.specs.declared.frame.Frame.{Frame}
