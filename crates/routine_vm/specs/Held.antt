@@ -8,7 +8,10 @@ use Rattle.cal_base.specs.Widths.{step_widths}
 use Rattle.cal_base.specs.declared.ends.Cause.TheVariants.{BadWidth, FuelSpent}
 use Rattle.cal_base.specs.declared.value.Val.{Val}
 use Rattle.cal_base.specs.declared.value.Store.TheVariants.{Main}
+use Rattle.bytecode.specs.declared.instr.PrintItem.{PrintItem}
+use Rattle.bytecode.specs.declared.instr.Instr.TheVariants as i
 use Rattle.bytecode.specs.declared.module.Module.{Module}
+use Rattle.code_verify.specs.Rules.{Stands}
 use Rattle.machine_meaning.specs.Machine.{State, Next, Prints, Opens, Ends, Traps, many_numbers}
 use Rattle.machine_meaning.specs.Fitting.{Fits}
 use Rattle.machine_meaning.specs.Meaning.{module_memory, Outcome}
@@ -19,7 +22,7 @@ use Rattle.routine_vm.specs.declared.frame.Body.TheVariants as body
 use Rattle.routine_vm.specs.declared.frame.Frame.{Frame}
 use Rattle.routine_vm.specs.Frames.{behind}
 use Rattle.routine_vm.specs.States.{call_of}
-use Rattle.routine_vm.specs.Events.{piece_of}
+use Rattle.routine_vm.specs.Events.{piece_of, AreItemsOf}
 
 -- main's call, its fuel, and the parts of its last event
 pub record Held : Type 0 where
@@ -52,9 +55,19 @@ pub record TellsStep (m : Module) (first blocks total : ℕ) (h : Held) : Type 0
   pub there : first + blocks ≤ length m.blocks
   pub may : MayGoOn m h
 
+-- a line is told: its items are those of the instruction that main has just done
+pub record TellsLine (m : Module) (items : ℕ) (h : Held) : Type 0 where
+  pub count : items ≡ length h.items
+  pub place : ℕ
+  pub line : List PrintItem
+  pub behind : h.call.place ≡ place + 1
+  pub stands : Stands m.main place (i.Print line)
+  pub named : AreItemsOf line h.items
+  pub may : MayGoOn m h
+
 -- the event tells its parts, and main may go on behind it unless it has ended
 abbrev pub IsTold : Module → MainEvent → Held → Type 0
-IsTold m (Print items) h = (items ≡ length h.items) × MayGoOn m h
+IsTold m (Print items) h = TellsLine m items h
 IsTold m (Par first blocks total) h = TellsStep m first blocks total h
 IsTold m Halt h = Unit {0}
 IsTold m (Fault cause) h = Unit {0}

@@ -10,7 +10,7 @@ ghost use Rattle.machine_meaning.specs.Meaning.{module_memory, main_of, main_at,
 ghost use Rattle.code_verify.specs.Rules.{IsVerified};
 ghost use Rattle.routine_vm.specs.Ready.{IsAtEvent, outcome_from};
 ghost use Rattle.routine_vm.specs.Frames.{behind};
-ghost use Rattle.routine_vm.specs.Events.{piece_of};
+ghost use Rattle.routine_vm.specs.Events.{piece_of, AreItemsOf};
 ghost use Rattle.routine_vm.specs.Held.{main_state, MayGoOn, event_at, IsTold, OpensBlocks, IsOutcome};
 
 use crate::event::{Item, MainEvent};
@@ -98,6 +98,7 @@ impl Machine {
         requires place { self.old.call.place + 1 < 2 ^ 32 }
         ensures event { result ≡ MainEvent.Print (length self.new.items) }
         ensures pieces { machine.pieces m.now line.now self.old.call.operands ≡ Some (map (piece_of m.now) self.new.items, self.new.call.operands) }
+        ensures named { AreItemsOf line.now self.new.items }
         ensures call { self.new.call ≡ behind self.old.call self.new.call.operands }
         ensures fuel { self.new.fuel ≡ self.old.fuel }
     {

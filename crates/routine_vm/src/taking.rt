@@ -2,7 +2,7 @@
 
 ghost use Rattle.std.specs.Prelude.{◌≡◌, ◌≤◌, ◌<◌, [], ◌∷◌, length, map, IsSome, IfSome, Some};
 ghost use Rattle.machine_meaning.specs.Machine as machine;
-ghost use Rattle.routine_vm.specs.Events.{piece_of, WidthBeside, TakesWidths};
+ghost use Rattle.routine_vm.specs.Events.{piece_of, IsItemOf, AreItemsOf, WidthBeside, TakesWidths};
 
 use crate::event::Item;
 use crate::operands::Operands;
@@ -15,7 +15,8 @@ const MOST_ROUTINES: u32 = 65_536;
 /// Takes a printed item, with its value from the top if it has one.
 fn take_item(m: &Module, item: PrintItem, operands: &mut Operands) -> Item
     requires { IsSome (machine.pieces m.now (item ∷ []) operands.old) }
-    ensures { machine.pieces m.now (item ∷ []) operands.old ≡ Some (piece_of m.now result ∷ [], operands.new) }
+    ensures piece { machine.pieces m.now (item ∷ []) operands.old ≡ Some (piece_of m.now result ∷ [], operands.new) }
+    ensures is_of { IsItemOf item result }
 {
     match item {
         PrintItem::Text { index } => Item::Text { index },
@@ -30,6 +31,7 @@ pub fn take_items(m: &Module, line: &[PrintItem], operands: &mut Operands, items
     requires few { length line.now ≤ 64 }
     requires none { items.old ≡ [] }
     ensures pieces { machine.pieces m.now line.now operands.old ≡ Some (map (piece_of m.now) items.new, operands.new) }
+    ensures are_of { AreItemsOf line.now items.new }
     ensures count { length items.new ≡ length line.now }
 {
     let mut rest = line;

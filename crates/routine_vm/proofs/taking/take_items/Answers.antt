@@ -1,4 +1,4 @@
-use Rattle.std.proofs.Common.{◌∙◌, List, [], ◌∷◌, Option, map, ap, subst, arith}
+use Rattle.std.proofs.Common.{◌∙◌, List, [], ◌∷◌, ◌++◌, append_assoc, Option, map, ap, subst, arith}
 use Rattle.std.specs.Prelude.{IsSome}
 use Rattle.bytecode.specs.declared.instr.PrintItem.{PrintItem}
 use Rattle.machine_meaning.specs.Machine.{pieces}
@@ -24,10 +24,15 @@ loop-item-preserved c =
     let e =
     ap (λ (l : List PrintItem). pieces m l ops) c.in-Some.ensures.cases.0
     ∙ pieces_last m others c.in-Some.item.now ops
-    ∙ ap (behind_last m others) c.take_item.ensures
+    ∙ ap (behind_last m others) c.take_item.ensures.piece
     in
     record {
       there = more_there (p ∷ []) (pieces m others c.take_item.new.operands) (subst (λ (o : Option _). IsSome o) e i.there);
       behind = rw c.put.ensures (i.behind ∙ ap (λ (o : Option _). with_more (map (piece_of m) c.loop-item.items) o) e ∙ more_more p (map (piece_of m) c.loop-item.items) (pieces m others c.take_item.new.operands));
+      done = (
+        c.in-Some.item.now ∷ i.done.0,
+        i.done.1 ∙ ap (λ (l : List PrintItem). l ++ i.done.0) c.in-Some.ensures.cases.0 ∙ append_assoc others (c.in-Some.item.now ∷ []) i.done.0,
+        rw c.put.ensures (c.take_item.ensures.is_of, i.done.2),
+      );
       count = rw c.put.ensures (omega (arith, i.count, c.in-Some.ensures.cases.1));
     }

@@ -1,7 +1,8 @@
-use Rattle.std.proofs.Common.{◌≡◌, ◌+◌, length, map}
+use Rattle.std.proofs.Common.{◌≡◌, ◌+◌, List, ◌++◌, length, map}
 use Rattle.std.specs.Prelude.{IsSome}
 use Rattle.machine_meaning.specs.Machine.{pieces}
-use Rattle.routine_vm.specs.Events.{piece_of}
+use Rattle.bytecode.specs.declared.instr.PrintItem.{PrintItem}
+use Rattle.routine_vm.specs.Events.{piece_of, AreItemsOf}
 use Rattle.routine_vm.proofs.Taken.{with_more}
 use Rattle.routine_vm.proofs.taking.take_items.Given as goal
 
@@ -10,6 +11,7 @@ abbrev pub invariant-loop-item : goal.invariant-loop-item
 invariant-loop-item l = record {
   there : IsSome (pieces l.m l.rest l.operands);
   behind : pieces l.m l.line l.fn.operands ≡ with_more (map (piece_of l.m) l.items) (pieces l.m l.rest l.operands);
+  done : (done : List PrintItem) × (l.line ≡ l.rest ++ done) × AreItemsOf done l.items;
   count : length l.items + length l.rest ≡ length l.line;
 }
 

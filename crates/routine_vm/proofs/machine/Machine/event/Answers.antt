@@ -34,7 +34,15 @@ returns-in-Some-Print-clause-told c =
     ap (λ (h : Held). slice_get m.main.instrs h.call.place) (sym c.self.view_is) ∙ sym c.in-Some-Print.ensures.value ∙ ap (λ (x : Instr). Some x) c.in-Some-Print.field-0-is ∙ ap (λ (l : List PrintItem). Some (i.Print l)) (sym c.as_slice.ensures)
     in
     let next = shown_next m c.requires.verified h c.requires.may c.as_slice.result.now later (module_memory m) stands c.show.ensures.pieces c.show.ensures.call c.show.ensures.fuel in
-    rw c.show.ensures.event (refl, behind_line m c.requires.verified h c.requires.may _ later (ap (λ (f : Frame). f.body) c.show.ensures.call ∙ c.requires.may.main) next)
+    rw c.show.ensures.event (record {
+      count = refl;
+      place = h.call.place;
+      line = c.as_slice.result.now;
+      behind = ap (λ (f : Frame). f.place) c.show.ensures.call;
+      stands = stands;
+      named = c.show.ensures.named;
+      may = behind_line m c.requires.verified h c.requires.may _ later (ap (λ (f : Frame). f.body) c.show.ensures.call ∙ c.requires.may.main) next;
+    })
 
 pub open-requires-clause-there : goal.open-requires-clause-there
 open-requires-clause-there c =
