@@ -1,5 +1,5 @@
--- Arithmetic on 64-bit signed numbers that traps.
-use Rattle.std.specs.Prelude.{ℤ, pos, negsuc, ◌^◌, Bool, nat_lt, int_div, int_rem, if◌then◌else◌, Result, Ok, Err}
+-- Arithmetic on 64-bit signed numbers, and what traps.
+use Rattle.std.specs.Prelude.{ℕ, ℤ, pos, negsuc, ◌+◌, ◌^◌, Bool, nat_lt, int_div, int_rem, if◌then◌else◌, Option, Some, None, Result, Ok, Err}
 use Rattle.std.specs.Ordering.{int_eq}
 use Rattle.cal_base.specs.declared.ends.Cause.{Cause}
 use Rattle.cal_base.specs.declared.ends.Cause.TheVariants.{Overflow, DivisionByZero}
@@ -22,3 +22,8 @@ abbrev pub remainder : ℤ → ℤ → Result ℤ Cause
 remainder x y =
     if int_eq y (pos 0) then Err DivisionByZero
     else (if fits_word (int_div x y) then Ok (int_rem x y) else Err Overflow)
+
+-- the address of an array's item, from the array's first address, the number of its items and the index: none where the index is out of range
+abbrev pub item_at : (first count : ℕ) → ℤ → Option ℕ
+item_at first count (pos i) = if nat_lt i count then Some (first + i) else None
+item_at first count (negsuc i) = None

@@ -36,7 +36,7 @@ impl Model for Image {
 }
 
 impl Image {
-    /// An image whose words are ordinary but for the tallies, and 0 but for the stated values.
+    /// An image whose words are ordinary but for the tallies, and 0 but for the stated values. Both lists go by ascending address.
     pub fn make(
         alloc: Global,
         words: u32,
@@ -56,7 +56,7 @@ impl Image {
         for a in tallies {
             kinds[*a as usize] = WordKind::Tally;
         }
-        let mut values = vec![in alloc; 0i64; 64 * pages]?;
+        let mut values = vec![in alloc; 0i64; PAGE as usize * pages]?;
         for entry in stated {
             values[entry.0 as usize] = entry.1;
         }
@@ -67,6 +67,7 @@ impl Image {
         })
     }
 
+    /// How many words it has, 262,144 at most.
     pub fn len(&self) -> u32
         ensures words { result ≡ length self.now.memory }
         ensures limit { length self.now.memory ≤ MOST_WORDS }
@@ -74,6 +75,7 @@ impl Image {
         self.kinds.len() as u32
     }
 
+    /// The value of the word at this address.
     pub fn word(&self, a: u32) -> i64
         requires { a < length self.now.memory }
         ensures { result ≡ value_at self.now.memory a }
@@ -81,6 +83,7 @@ impl Image {
         self.values[a as usize]
     }
 
+    /// The kind of the word at this address, which never changes.
     pub fn kind(&self, a: u32) -> WordKind
         requires { a < length self.now.memory }
         ensures { result ≡ kind_at self.now.memory a }
@@ -88,7 +91,7 @@ impl Image {
         self.kinds[a as usize]
     }
 
-    /// The 64 words of a page; past the last word they are 0.
+    /// The 64 words of page p, which begins at address 64 p; past the last word they are 0.
     pub fn page(&self, p: u32) -> &[i64]
         requires { page_size * p < length self.now.memory }
         ensures { result.now ≡ page_words self.now.memory p }
@@ -106,7 +109,7 @@ impl Image {
         self.versions[p as usize]
     }
 
-    /// Writes one word.
+    /// Writes one word. The version of its page rises by one, even where the value is the same; past 64 bits it has none.
     pub fn set(&mut self, a: u32, v: i64)
         requires { a < length self.old.memory }
         ensures memory { self.new.memory ≡ with_value self.old.memory a v }
@@ -119,7 +122,7 @@ impl Image {
     }
 }
 
-// The version after a write.
+/// The version after a write.
 fn raised(version: Option<u64>) -> Option<u64>
     ensures { result ≡ next_version version }
 {

@@ -19,7 +19,7 @@ pub trait UpdateWords {
         ensures addresses { IsBelow (2 ^ 32) (update self.now) };
 }
 
-/// An update of its own.
+/// An update that is kept: it owns its entries.
 #[derive(Drop)]
 pub struct KeptUpdate {
     words: BTreeMap<u32, i64, Global>,
@@ -50,6 +50,7 @@ impl KeptUpdate {
         }
     }
 
+    /// A copy of all entries of an update. It takes memory for them.
     pub fn copy_of<U: UpdateWords>(alloc: Global, update: &U) -> Result<KeptUpdate, NoMemory>
         ensures { IfOk result (λ kept. kept ≡ U.update update.now) }
     {

@@ -1,9 +1,11 @@
+//! Claims in a step of two routines.
+
 use super::*;
 use cal_base::NoMemory;
 use std::alloc::Global;
 use std::test::Fail;
 
-// The answer to a claim in a step of two routines, of which 0 was claimed once, where each number below the bound is wanted.
+/// The answer to a claim in a step of two routines, of which 0 was claimed once, where each number below the bound is wanted.
 fn asked(alloc: Global, who: u8, worker_claims: u32, is_over: bool) -> Result<Claimed, NoMemory> {
     let mut table = ProgressTable::make(alloc, 2)?;
     table.note_claim(0);

@@ -369,3 +369,15 @@ later_fault_first = (refl, refl, refl)
 pub skipped_events : rows.SkippedEvents
 unfolding after least_faulty is_faulty shared_word least_below lightest_below fault_of merged_memory
 skipped_events = (refl, refl, refl)
+
+pub claim_is_dropped : rows.ClaimIsDropped
+unfolding after least_faulty is_faulty shared_word least_below lightest_below fault_of merged_memory
+claim_is_dropped = (refl, refl, refl)
+
+pub late_answer_counts_for_nothing : rows.LateAnswerCountsForNothing
+unfolding after least_faulty is_faulty shared_word least_below lightest_below fault_of merged_memory
+late_answer_counts_for_nothing = (refl, refl, refl)
+
+pub stopped_worker_delivers : rows.StoppedWorkerDelivers
+unfolding after least_faulty is_faulty shared_word least_below lightest_below fault_of merged_memory
+stopped_worker_delivers = (refl, refl, refl)

@@ -151,3 +151,53 @@ SkippedEvents =
     (Step 1 1 [] [] ∷ Step 2 1 [] [] ∷ [])
     ((Claim 0 0 ∷ Arrive 0 1 0 First ∷ []) ∷ (Claim CALLER 0 ∷ Arrive CALLER 2 0 First ∷ []) ∷ [])
     (Done 2)
+
+-- ---- what outlives a step, and what does not
+
+-- a worker is busy when its step is closed: its claim is dropped, it finishes nothing, and it claims in the next step
+abbrev pub ClaimIsDropped : Type 0
+ClaimIsDropped =
+    Becomes two_quiet_steps
+    (
+    event.Claim 0 ∷ event.Claim 1 ∷ event.Finish 0 ∷ event.Arrive 1 ∷ event.Finish 1 ∷ event.Claim 1 ∷ event.Finish 1
+    ∷ event.Arrive 2 ∷ []
+    )
+    (Step 1 1 [] [] ∷ Step 2 1 [] [] ∷ [])
+    ((Claim 0 0 ∷ Claim 1 0 ∷ Arrive 0 1 0 First ∷ []) ∷ (Claim 1 0 ∷ Arrive 1 2 0 First ∷ []) ∷ [])
+    (Done 2)
+
+-- an answer arrives late: it is entered and counts for nothing, so a worker claims the routine, and then the caller does
+abbrev pub LateAnswerCountsForNothing : Type 0
+LateAnswerCountsForNothing =
+    Becomes two_quiet_steps
+    (event.Claim 0 ∷ event.Finish 0 ∷ event.Arrive 1 ∷ event.Arrive 1 ∷ event.Claim 1 ∷ [])
+    (Step 1 1 [] [] ∷ Step 2 1 [] [] ∷ [])
+    (
+    (Claim 0 0 ∷ Arrive 0 1 0 First ∷ [])
+    ∷ (Arrive 0 1 0 Stale ∷ Claim 1 0 ∷ Claim CALLER 0 ∷ Arrive CALLER 2 0 First ∷ [])
+    ∷ []
+    )
+    (Done 2)
+
+-- a step of two routines that write nothing, and one of one routine
+abbrev pub quiet_pair_first : Main
+quiet_pair_first =
+    Opens
+    (record { number = 1; opening = []; answers = Update (empty {R = nat_cmp}) ∷ Update (empty {R = nat_cmp}) ∷ [] })
+    (λ memory. Opens (quiet 2) (λ later. Ends (Done 2)))
+
+-- a worker finishes and stops: its answer still arrives, then again, and once more in the next step
+abbrev pub StoppedWorkerDelivers : Type 0
+StoppedWorkerDelivers =
+    Becomes quiet_pair_first
+    (
+    event.Claim 0 ∷ event.Finish 0 ∷ event.Stop 0 ∷ event.Arrive 1 ∷ event.Arrive 1 ∷ event.Claim 1 ∷ event.Finish 1
+    ∷ event.Arrive 2 ∷ event.Arrive 1 ∷ []
+    )
+    (Step 1 2 [] [] ∷ Step 2 1 [] [] ∷ [])
+    (
+    (Claim 0 0 ∷ Arrive 0 1 0 First ∷ Arrive 0 1 0 Again ∷ Claim 1 1 ∷ Arrive 1 1 1 First ∷ [])
+    ∷ (Arrive 0 1 0 Stale ∷ Claim CALLER 0 ∷ Arrive CALLER 2 0 First ∷ [])
+    ∷ []
+    )
+    (Done 2)

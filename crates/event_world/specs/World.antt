@@ -52,6 +52,7 @@ is_all_done AllDone = true
 is_all_done (Work k) = false
 is_all_done Spent = false
 
+-- would the caller's claim find nothing wanted?
 abbrev pub is_complete : StepJob → History → Bool
 is_complete job history = is_all_done (claimed job history CALLER)
 
@@ -90,6 +91,7 @@ pub record State : Type 0 where
   pub modes : ℕ → Mode
   pub deliveries : List Delivery
 
+-- the modes, with this one for this worker
 abbrev pub with_mode : (ℕ → Mode) → ℕ → Mode → ℕ → Mode
 with_mode modes who mode = λ w. if w == who then mode else modes w
 
@@ -99,12 +101,13 @@ freed Idle = Idle
 freed (Busy k) = Idle
 freed Stopped = Stopped
 
--- what a worker's mode lets an event do, in the open step
+-- what an event may change in an open step: its history, the workers' modes, and the deliveries
 pub record Turn : Type 0 where
   pub history : History
   pub modes : ℕ → Mode
   pub deliveries : List Delivery
 
+-- a claim got this answer: work is entered and makes the worker busy, and nothing else changes
 abbrev pub claim_turn : ℕ → Claimed → Turn → Turn
 claim_turn who (Work k) turn = record turn { history = turn.history ++ Claim who k ∷ []; modes = with_mode turn.modes who (Busy k) }
 claim_turn who AllDone turn = turn
@@ -123,6 +126,7 @@ finish_by job who (Busy k) turn =
     record turn { modes = with_mode turn.modes who Idle; deliveries = turn.deliveries ++ record { who = who; step = job.number; k = k } ∷ [] }
 finish_by job who Stopped turn = turn
 
+-- a delivery got this verdict: it is entered, unless it is full
 abbrev pub arrive_turn : Delivery → Verdict → Turn → Turn
 arrive_turn d First turn = record turn { history = turn.history ++ Arrive d.who d.step d.k First ∷ [] }
 arrive_turn d Again turn = record turn { history = turn.history ++ Arrive d.who d.step d.k Again ∷ [] }
@@ -165,13 +169,16 @@ apply_in (Over ending) e state = state
 apply_in (Open job next history) e state =
     after_turn state.run job next (turn_of job e (record { history = history; modes = state.modes; deliveries = state.deliveries }))
 
+-- the state after one event
 abbrev pub apply : Event → State → State
 apply e state = apply_in state.run.phase e state
 
+-- the state after all events, in order
 abbrev pub apply_all : List Event → State → State
 apply_all [] state = state
 apply_all (e ∷ events) state = apply_all events (apply e state)
 
+-- the state before any event: main has come to its first step that is not complete, or to its end, and no worker has done anything
 abbrev pub first_state : Main → State
 first_state main = record { run = run_on main; modes = λ w. Idle; deliveries = [] }
 
@@ -181,6 +188,7 @@ first_state main = record { run = run_on main; modes = λ w. Idle; deliveries = 
 abbrev pub pair_of : StepJob → ℕ → History
 pair_of job k = Claim CALLER k ∷ Arrive CALLER job.number k First ∷ []
 
+-- the caller's claim got this answer: work gives a pair, and then more; else the history stays
 abbrev pub pairs_by : Claimed → StepJob → History → (History → History) → History
 pairs_by (Work k) job history more = more (history ++ pair_of job k)
 pairs_by AllDone job history more = history
@@ -201,6 +209,7 @@ finish_main (Ends ending) = record { shown = []; closed = []; phase = Over endin
 finish_main (Shows bytes main) = showing_first (Line bytes) (finish_main main)
 finish_main (Opens job next) = closing job (completed job []) (merged job (completed job [])) (λ later. finish_main (next later))
 
+-- the caller completes the open step, and each later one
 abbrev pub finish_in : Phase → Run
 finish_in (Over ending) = record { shown = []; closed = []; phase = Over ending }
 finish_in (Open job next history) = closing job (completed job history) (merged job (completed job history)) (λ later. finish_main (next later))

@@ -1,6 +1,6 @@
 //! Worked examples of worlds. They are the contract of a function that does nothing.
 
-ghost use Rattle.event_world.specs.Rows.{NobodyWorks, WorkerStops, RepeatedAndLate, ConflictInOrderOfNumbers, LaterFaultFirst, SkippedEvents};
+ghost use Rattle.event_world.specs.Rows.{NobodyWorks, WorkerStops, RepeatedAndLate, ConflictInOrderOfNumbers, LaterFaultFirst, SkippedEvents, ClaimIsDropped, LateAnswerCountsForNothing, StoppedWorkerDelivers};
 
 /// Each example is a small program, a list of events, what is shown, the steps' histories and the end.
 pub fn worked_worlds()
@@ -10,4 +10,7 @@ pub fn worked_worlds()
     ensures conflict { ConflictInOrderOfNumbers }
     ensures fault_first { LaterFaultFirst }
     ensures skipped { SkippedEvents }
+    ensures dropped { ClaimIsDropped }
+    ensures counts_for_nothing { LateAnswerCountsForNothing }
+    ensures still_delivers { StoppedWorkerDelivers }
 {}

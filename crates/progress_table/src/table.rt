@@ -1,37 +1,10 @@
-ghost use Rattle.std.specs.Prelude.{
-  ◌≡◌,
-  ◌+◌,
-  ◌<◌,
-  ◌≤◌,
-  ◌-◌,
-  ◌^◌,
-  ℕ,
-  Bool,
-  true,
-  false,
-  IfOk,
-  IsTrue,
-  List,
-  MatchOption,
-  length,
-  replicate,
-  slice_index,
-};
+//! The table of a step's progress.
+
+ghost use Rattle.std.specs.Prelude.{◌≡◌, ◌<◌, ◌≤◌, ◌-◌, ◌^◌, false, IfOk, MatchOption, length, replicate};
 ghost use Rattle.std.specs.List.{sum};
 ghost use Rattle.std.specs.Option.{ForSome};
 ghost use Rattle.cal_base.specs.Numbers.{lighter};
-ghost use Rattle.progress_table.specs.Progress.{
-  Progress,
-  NothingIsWanted,
-  IsLeastWanted,
-  claims_in,
-  is_done_in,
-  is_wanted_in,
-  least_wanted_in,
-  with_claim,
-  with_done,
-  cut_at,
-};
+ghost use Rattle.progress_table.specs.Progress.{Progress, NothingIsWanted, IsLeastWanted, claims_in, is_done_in, is_wanted_in, least_wanted_in, with_claim, with_done, cut_at};
 
 use cal_base::NoMemory;
 use std::alloc::Global;
@@ -54,7 +27,7 @@ impl Model for ProgressTable {
 }
 
 impl ProgressTable {
-    /// The table of n routines, of which none was claimed and none is done.
+    /// The table of n routines, 65,536 at most, of which none was claimed and none is done. All of them are wanted.
     pub fn make(alloc: Global, n: u32) -> Result<ProgressTable, NoMemory>
         requires { n ≤ 65536 }
         ensures { IfOk result (λ table. table ≡ record { claims = replicate n 0; done = replicate n false; bound = n }) }
@@ -66,6 +39,7 @@ impl ProgressTable {
         })
     }
 
+    /// How many routines the step has.
     pub fn len(&self) -> u32
         ensures size { result ≡ length self.now.claims }
         ensures flags { length self.now.done ≡ length self.now.claims }
@@ -75,6 +49,7 @@ impl ProgressTable {
         self.claims.len() as u32
     }
 
+    /// How often routine k was claimed.
     pub fn claims(&self, k: u32) -> u32
         requires { k < length self.now.claims }
         ensures { result ≡ claims_in self.now k }
@@ -82,6 +57,7 @@ impl ProgressTable {
         self.claims[k as usize]
     }
 
+    /// Whether routine k is done.
     pub fn is_done(&self, k: u32) -> bool
         requires { k < length self.now.claims }
         ensures { result ≡ is_done_in self.now k }
@@ -89,6 +65,7 @@ impl ProgressTable {
         self.done[k as usize]
     }
 
+    /// Whether routine k is wanted: it is not done, and is below the bound.
     fn is_wanted(&self, k: u32) -> bool
         requires { k < length self.now.claims }
         ensures { result ≡ is_wanted_in self.now k }
@@ -130,6 +107,7 @@ impl ProgressTable {
         best
     }
 
+    /// Counts one more claim of routine k. There is room for 2^32 - 1 claims of all routines together.
     pub fn note_claim(&mut self, k: u32)
         requires in_range { k < length self.old.claims }
         requires room { sum self.old.claims < 2 ^ 32 - 1 }
@@ -138,6 +116,7 @@ impl ProgressTable {
         self.claims[k as usize] += 1;
     }
 
+    /// Notes that routine k is done, which it stays.
     pub fn note_done(&mut self, k: u32)
         requires { k < length self.old.claims }
         ensures { self.new ≡ with_done self.old k }
@@ -145,7 +124,7 @@ impl ProgressTable {
         self.done[k as usize] = true;
     }
 
-    /// From now on no number above k is wanted.
+    /// From now on neither k nor any number above it is wanted.
     pub fn cut_above(&mut self, k: u32)
         requires { k < length self.old.claims }
         ensures { self.new ≡ cut_at self.old k }

@@ -1,3 +1,5 @@
+//! A table of three routines.
+
 use super::*;
 use std::test::Fail;
 

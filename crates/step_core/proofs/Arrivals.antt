@@ -21,7 +21,7 @@ use Rattle.step_laws.proofs.Growth.{delivered-other, delivered-first, delivered_
 use Rattle.progress_table.specs.Progress.{Progress, is_done_in}
 use Rattle.step_merge.specs.Staged.{Staged, StandsFor, size_of as laid_size}
 use Rattle.ties_commit.specs.Committed.{Agree, AreSame, Commits, LaysFirst, is_laid, verdict_in}
-use Rattle.step_core.specs.Names.{has_entry}
+use Rattle.step_core.specs.Calls.{has_entry}
 use Rattle.step_core.specs.Kept.{IsKept}
 
 -- an item past the end is the default
@@ -41,7 +41,8 @@ delivered_has job history k within =
     ap (λ o. is_some o) (answer_of-restricted_to (is_delivered history) job.answers k)
     ∙ (elim (is_delivered history k) as (λ b. is_some (cond b (answer_of (all_of job.answers) k) None) ≡ b) [ true ↦ has_answer job.answers k within | false ↦ refl ])
 
-within_length : (xs : List Answer) (k : ℕ) (answer : Answer) → slice_get xs k ≡ Some answer → k < length xs
+-- what has an answer is a number of the step
+pub within_length : (xs : List Answer) (k : ℕ) (answer : Answer) → slice_get xs k ≡ Some answer → k < length xs
 within_length [] k answer at = absurd (cc)
 within_length (x ∷ xs) zero answer at = omega arith
 within_length (x ∷ xs) (suc k) answer at = omega (arith, within_length xs k answer at)
@@ -56,6 +57,10 @@ module _ (job : StepJob) (table : Progress) (stage : Staged) (number claims arri
 
   pub laid_length : laid_size stage ≡ length table.claims
   laid_length = ap (λ a. length a) kept.laid_so.same ∙ (length-restricted_to (is_delivered history) job.answers ∙ sym kept.size)
+
+  -- what has an answer is a number of the table
+  pub in_table : (k : ℕ) (answer : Answer) → slice_get job.answers k ≡ Some answer → k < length table.claims
+  in_table k answer at = omega (arith, kept.size, within_length job.answers k answer at)
 
   stage_so : stage.laid ≡ delivered job history
   stage_so = kept.laid_so.same

@@ -21,7 +21,7 @@ use Rattle.step_laws.proofs.Growth.{delivered-claim, delivered_no_more, length_i
 use Rattle.progress_table.specs.Progress.{Progress, claims_in, is_wanted_in, least_wanted_in, with_claim, NothingIsWanted}
 use Rattle.eager_claim.specs.Claimed.{claimed_in}
 use Rattle.step_merge.specs.Staged.{Staged, StandsFor, Merges}
-use Rattle.step_core.specs.Names.{IsEnd}
+use Rattle.step_core.specs.Calls.{IsEnd}
 use Rattle.step_core.specs.Kept.{IsKept}
 
 module _ (job : StepJob) (table : Progress) (stage : Staged) (number claims arrivals room : ℕ) (history : History) (kept : IsKept job table stage number claims arrivals room history) where

@@ -1,4 +1,4 @@
-// Steps by hand, event by event.
+//! Steps by hand, event by event.
 
 ghost use Rattle.std.specs.Prelude.{◌≡◌, IsFalse};
 ghost use Rattle.cal_base.specs.History.{is_claim, is_arrival, is_caller, anyone, claims_by, arrivals_by};
@@ -13,14 +13,14 @@ use cal_base::{
 use std::alloc::Global;
 use std::test::Fail;
 
-// Step 2 of one routine, which writes nothing.
+/// Step 2 of one routine, which writes nothing.
 struct One;
 
 impl JobName for One {
     ghost job = { one_routine };
 }
 
-// Step 1 of two routines: the first writes nothing, and the second overflows.
+/// Step 1 of two routines: the first writes nothing, and the second overflows.
 struct Two;
 
 impl JobName for Two {
@@ -50,7 +50,7 @@ fn is_arrival_of_caller(entry: &Entry) -> bool
     }
 }
 
-// Whether the caller claimed something.
+/// Whether the caller claimed something.
 fn has_caller_claimed(history: &[Entry]) -> bool
     ensures { IsFalse result → claims_by is_caller history.now ≡ 0 }
 {
@@ -60,7 +60,7 @@ fn has_caller_claimed(history: &[Entry]) -> bool
     }
 }
 
-// Whether the caller delivered something.
+/// Whether the caller delivered something.
 fn has_caller_delivered(history: &[Entry]) -> bool
     ensures { IsFalse result → arrivals_by is_caller history.now ≡ 0 }
 {
@@ -70,7 +70,7 @@ fn has_caller_delivered(history: &[Entry]) -> bool
     }
 }
 
-// The caller's first claim.
+/// The caller's first claim.
 fn first_claim_of_caller(core: &mut Core<One>) -> Option<Claimed> {
     if has_caller_claimed(core.history()) {
         return None;
@@ -78,14 +78,12 @@ fn first_claim_of_caller(core: &mut Core<One>) -> Option<Claimed> {
     Some(core.claim(CALLER))
 }
 
-// The caller's first delivery.
+/// The caller's first delivery.
 fn first_delivery_of_caller(
     alloc: Global,
     core: &mut Core<One>,
     only: &Finished<One, KeptUpdate>,
-) -> Result<Option<Verdict>, NoMemory>
-    requires { only.now.k ≡ 0 }
-{
+) -> Result<Option<Verdict>, NoMemory> {
     if has_caller_delivered(core.history()) {
         return Ok(None);
     }

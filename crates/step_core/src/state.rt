@@ -1,14 +1,17 @@
-ghost use Rattle.std.specs.Prelude.{None, Some, Ok, Err, replicate, OnOk, OnErr, IfOk, true, slice_set, ◌≡◌, ℕ, ◌+◌, ◌*◌, ◌-◌, ◌^◌, ◌<◌, ◌≤◌, ◌↔◌, List, [], ◌∷◌, ◌++◌, length, IsTrue, vec_len, vec_capacity};
+//! The core of a step: its history, and what follows from it.
+
+ghost use Rattle.std.specs.Prelude.{OnErr, IfOk, ◌≡◌, ◌+◌, ◌^◌, ◌<◌, ◌≤◌, ◌↔◌, [], ◌∷◌, ◌++◌, IsTrue, vec_len, vec_capacity};
 ghost use Rattle.cal_base.specs.Pages.{IsLater};
 ghost use Rattle.cal_base.specs.Answers.{answer_by};
 ghost use Rattle.ties_commit.specs.Committed.{answer_in};
-ghost use Rattle.cal_base.specs.Claims.{StepJob, size_of, claimed, verdict_on, IsLegal, IsComplete, meant};
+ghost use Rattle.cal_base.specs.Claims.{size_of, claimed, verdict_on, IsLegal, IsComplete, meant};
 ghost use Rattle.cal_base.specs.History.{claims_by, arrivals_by, is_caller};
-ghost use Rattle.step_core.specs.Names.{IsEnd, after_claim, after_arrival, has_entry};
+ghost use Rattle.step_core.specs.Calls.{IsEnd, after_claim, after_arrival, has_entry};
 
 use crate::finished::Finished;
 use cal_base::{
     CALLER, Claimed, Entry, Image, JobName, NoMemory, RoutineEnd, StepFault, UpdateWords, Verdict,
+    arrival_bound, claim_bound,
 };
 use progress_table::ProgressTable;
 use std::alloc::Global;
@@ -43,11 +46,13 @@ impl<N: JobName> Model for Core<N> {
 /// What a step leaves: its history, and its fault where it has one.
 #[derive(Drop)]
 pub struct Closed {
+    /// All entries, the earliest first.
     pub history: Vec<Entry>,
+    /// Whether the memory now is what the step leaves, or the fault by which the step leaves none.
     pub result: Result<(), StepFault>,
 }
 
-// Adds an entry where there is room.
+/// Adds an entry where there is room.
 fn enter(history: &mut Vec<Entry>, entry: Entry)
     requires { vec_len history.old < vec_capacity history.old }
     ensures items { history.new.items ≡ history.old.items ++ entry ∷ [] }
@@ -56,7 +61,7 @@ fn enter(history: &mut Vec<Entry>, entry: Entry)
     let _ = history.push(entry);
 }
 
-// A count of what workers did, after one more by this number.
+/// A count of what workers did, after one more by this number.
 fn raised(count: u32, who: u8) -> u32
     requires { count < 2 ^ 31 }
     ensures worker { who < 32 → result ≡ count + 1 }
@@ -65,7 +70,7 @@ fn raised(count: u32, who: u8) -> u32
     if who < CALLER { count + 1 } else { count }
 }
 
-// Whether a delivery with this verdict stands in the history.
+/// Whether a delivery with this verdict stands in the history.
 fn is_entered(verdict: Verdict) -> bool
     ensures { result ≡ has_entry verdict }
 {
@@ -75,7 +80,7 @@ fn is_entered(verdict: Verdict) -> bool
     }
 }
 
-// What is delivered of a routine that ended so and wrote this.
+/// What is delivered of a routine that ended so and wrote this.
 fn delivery_of<'a, U: UpdateWords>(ended: RoutineEnd, words: &'a U) -> Delivery<'a, U>
     ensures { answer_in U.update result ≡ answer_by ended (U.update words.now) }
 {
@@ -86,7 +91,8 @@ fn delivery_of<'a, U: UpdateWords>(ended: RoutineEnd, words: &'a U) -> Delivery<
 }
 
 impl<N: JobName> Core<N> {
-    /// A step that begins: nothing was claimed, and nothing arrived.
+    /// A step that begins, of n routines, 65,536 at most: nothing was claimed, and nothing arrived. All the memory that its history
+    /// will need is taken here.
     pub fn make(alloc: Global, step: u64, image: &Image, n: u32) -> Result<Core<N>, NoMemory>
         requires limit { n ≤ 65536 }
         requires step { step ≡ N.job.number }
@@ -94,7 +100,7 @@ impl<N: JobName> Core<N> {
         requires size { n ≡ size_of N.job }
         ensures { IfOk result (λ core. core ≡ []) }
     {
-        let room = 2 * (3 * n as usize + 32) + 32 + (3 * n as usize + 32) + 2 * n as usize;
+        let room = (claim_bound(n) + arrival_bound(n) + 2 * n) as usize;
         let table = ProgressTable::make(alloc, n)?;
         let stage = Stage::make(alloc, image, n)?;
         let history = Vec::with_capacity(alloc, room)?;
@@ -127,7 +133,8 @@ impl<N: JobName> Core<N> {
         }
     }
 
-    /// The delivery of an answer of an older step, which is not laid.
+    /// The delivery, by a worker, of the answer of routine k of an older step, which is not laid. It is `Stale`, or `Full` and not
+    /// entered.
     pub fn arrive_held(&mut self, who: u8, step: u64, k: u32) -> Verdict
         requires who { who < CALLER }
         requires step { step < N.job.number }
@@ -151,7 +158,8 @@ impl<N: JobName> Core<N> {
         Verdict::Stale
     }
 
-    /// Merges the answers of a complete step into the memory that it opened on.
+    /// Merges the answers of a complete step into the memory that it opened on. Where the step ends in a fault, the memory stays as
+    /// it is.
     pub fn close(self, image: &mut Image) -> Closed
         requires complete { IsComplete N.job self }
         requires opening { image.old.memory ≡ N.job.opening }
@@ -167,7 +175,7 @@ impl<N: JobName> Core<N> {
         Closed { history, result }
     }
 
-    /// A claim by a worker or by the caller.
+    /// A claim by a worker, 0 to 31, or by the caller, which claims as many times as there are routines at most.
     pub fn claim(&mut self, who: u8) -> Claimed
         requires who { who ≤ CALLER }
         requires caller { who ≡ CALLER → claims_by is_caller self.old < size_of N.job }
@@ -187,7 +195,8 @@ impl<N: JobName> Core<N> {
         answer
     }
 
-    /// The delivery of an answer of this step.
+    /// The delivery of an answer of this step, by a worker, 0 to 31, or by the caller, which delivers as many times as there are
+    /// routines at most. Where memory is wanted nothing changes.
     pub fn arrive<U: UpdateWords>(
         &mut self,
         alloc: Global,
@@ -195,7 +204,6 @@ impl<N: JobName> Core<N> {
         done: &Finished<N, U>,
     ) -> Result<Verdict, NoMemory>
         requires who { who ≤ CALLER }
-        requires k { done.now.k < size_of N.job }
         requires caller { who ≡ CALLER → arrivals_by is_caller self.old < size_of N.job }
         ensures verdict { IfOk result (λ verdict. verdict ≡ verdict_on N.job self.old who N.job.number done.now.k) }
         ensures history { IfOk result (λ verdict. self.new ≡ after_arrival self.old who N.job.number done.now.k verdict) }

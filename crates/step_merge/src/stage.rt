@@ -40,7 +40,7 @@ impl Model for Stage {
     ghost invariant = { λ s. (length s.kinds.items ≤ 262144) × (length s.laid.items < 2 ^ 32) };
 }
 
-// What an answer has for a word.
+/// What an answer has for a word.
 fn entry_of(answer: &Option<Answer>, a: u32) -> Option<i64>
     ensures { result ≡ entry_in answer.now a }
 {
@@ -54,6 +54,7 @@ fn entry_of(answer: &Option<Answer>, a: u32) -> Option<i64>
     }
 }
 
+/// Whether an answer has an entry for a word.
 fn has_entry(answer: &Option<Answer>, a: u32) -> bool
     ensures { result ≡ is_some (entry_in answer.now a) }
 {
@@ -63,6 +64,7 @@ fn has_entry(answer: &Option<Answer>, a: u32) -> bool
     }
 }
 
+/// Whether a routine failed.
 fn failed(answer: &Option<Answer>) -> bool
     ensures { result ≡ is_fault answer.now }
 {
@@ -73,7 +75,7 @@ fn failed(answer: &Option<Answer>) -> bool
     }
 }
 
-// The first number below k that has an entry for the word, or k.
+/// The first number below k that has an entry for the word, or k.
 fn writer(laid: &[Option<Answer>], k: u32, a: u32) -> u32
     requires { k ≤ length laid.now }
     ensures { result ≡ first_writer laid.now k a }
@@ -86,6 +88,7 @@ fn writer(laid: &[Option<Answer>], k: u32, a: u32) -> u32
     k
 }
 
+/// Whether a word is ordinary.
 fn is_ordinary_at(kinds: &[WordKind], a: u32) -> bool
     requires { a < length kinds.now }
     ensures { result ≡ is_ordinary kinds.now a }
@@ -96,7 +99,7 @@ fn is_ordinary_at(kinds: &[WordKind], a: u32) -> bool
     }
 }
 
-// Whether number k and one below it both have an entry for this ordinary word.
+/// Whether number k and one below it both have an entry for this ordinary word.
 fn is_shared_at(kinds: &[WordKind], laid: &[Option<Answer>], k: u32, a: u32) -> bool
     requires number { k < length laid.now }
     requires word { a < length kinds.now }
@@ -105,7 +108,7 @@ fn is_shared_at(kinds: &[WordKind], laid: &[Option<Answer>], k: u32, a: u32) -> 
     is_ordinary_at(kinds, a) && has_entry(&laid[k as usize], a) && writer(laid, k, a) < k
 }
 
-// The least ordinary word that number k shares with one below it, or the number of words.
+/// The least ordinary word that number k shares with one below it, or the number of words.
 fn shared(kinds: &[WordKind], laid: &[Option<Answer>], k: u32) -> u32
     requires number { k < length laid.now }
     requires words { length kinds.now ≤ 262144 }
@@ -120,6 +123,7 @@ fn shared(kinds: &[WordKind], laid: &[Option<Answer>], k: u32) -> u32
     words
 }
 
+/// Whether number k failed, or shares an ordinary word with one below it.
 fn is_faulty_at(kinds: &[WordKind], laid: &[Option<Answer>], k: u32) -> bool
     requires number { k < length laid.now }
     requires words { length kinds.now ≤ 262144 }
@@ -128,7 +132,7 @@ fn is_faulty_at(kinds: &[WordKind], laid: &[Option<Answer>], k: u32) -> bool
     failed(&laid[k as usize]) || (shared(kinds, laid, k) as usize) < kinds.len()
 }
 
-// The least faulty number, or the number of routines.
+/// The least faulty number, or the number of routines.
 fn least(kinds: &[WordKind], laid: &[Option<Answer>]) -> u32
     requires numbers { length laid.now < 2 ^ 32 }
     requires words { length kinds.now ≤ 262144 }
@@ -143,7 +147,7 @@ fn least(kinds: &[WordKind], laid: &[Option<Answer>]) -> u32
     n
 }
 
-// The fault of number k by its answer, where it shares a word with another.
+/// The fault of number k by its answer, where it shares a word with another.
 fn fault_from(answer: &Option<Answer>, k: u32, word: u32, other: u32) -> StepFault
     ensures { result ≡ fault_by answer.now k word other }
 {
@@ -165,7 +169,7 @@ fn fault_from(answer: &Option<Answer>, k: u32, word: u32, other: u32) -> StepFau
     }
 }
 
-// The fault of number k.
+/// The fault of number k.
 fn fault(kinds: &[WordKind], laid: &[Option<Answer>], k: u32) -> StepFault
     requires number { k < length laid.now }
     requires words { length kinds.now ≤ 262144 }
@@ -177,7 +181,7 @@ fn fault(kinds: &[WordKind], laid: &[Option<Answer>], k: u32) -> StepFault
 }
 
 impl Stage {
-    /// The stage of n routines, of which none has an answer yet.
+    /// The stage of n routines, of which none has an answer yet, for a merge into an image of these kinds.
     pub fn make(alloc: Global, image: &Image, n: u32) -> Result<Stage, NoMemory>
         ensures kinds { IfOk result (λ stage. stage.kinds ≡ kinds_of image.now.memory) }
         ensures empty { IfOk result (λ stage. StandsFor stage (replicate n None)) }
@@ -195,7 +199,7 @@ impl Stage {
         Ok(Stage { kinds, laid })
     }
 
-    /// Lays the update of routine k.
+    /// Lays the update of routine k, which has no answer yet. Where memory is wanted nothing is laid.
     pub fn lay<U: UpdateWords>(&mut self, alloc: Global, k: u32, update: &U) -> Result<(), NoMemory>
         requires in_range { k < size_of self.old }
         requires free { IsFree self.old k }
@@ -207,7 +211,7 @@ impl Stage {
         Ok(())
     }
 
-    /// Lays the fault of routine k.
+    /// Lays the fault of routine k, which has no answer yet.
     pub fn lay_fault(&mut self, k: u32, cause: Cause)
         requires in_range { k < size_of self.old }
         requires free { IsFree self.old k }
@@ -216,7 +220,7 @@ impl Stage {
         self.laid[k as usize] = Some(Answer::Fault(cause));
     }
 
-    /// The least faulty number that is laid.
+    /// The least faulty number among the answers that are laid, if one is faulty.
     pub fn least_fault(&self) -> Option<u32>
         ensures least { IsLeastFault self.now result }
         ensures in_range { ForSome result (λ k. k < size_of self.now) }
@@ -228,9 +232,30 @@ impl Stage {
             None
         }
     }
+
+    /// Merges what is laid into the image, unless the step ends in a fault: then the image stays as it is.
+    pub fn install(&mut self, image: &mut Image) -> Result<(), StepFault>
+        requires { self.old.kinds ≡ kinds_of image.old.memory }
+        ensures merged { Merges self.old image.old.memory image.new.memory result }
+        ensures kept { OnErr result (image.new ≡ image.old) }
+        ensures stage { self.new ≡ self.old }
+        ensures later { IsLater image.old image.new }
+    {
+        let k = least(&self.kinds, &self.laid);
+        if (k as usize) < self.laid.len() {
+            return Err(fault(&self.kinds, &self.laid, k));
+        }
+        match outside(image, &self.laid) {
+            Some(word) => Err(StepFault::Total { word }),
+            None => {
+                merge(image, &self.laid);
+                Ok(())
+            }
+        }
+    }
 }
 
-// What an answer adds to a tally word.
+/// What an answer adds to a tally word.
 fn added(answer: &Option<Answer>, a: u32) -> i64
     ensures { result ≡ unwrap_or (entry_in answer.now a) (pos 0) }
 {
@@ -240,7 +265,7 @@ fn added(answer: &Option<Answer>, a: u32) -> i64
     }
 }
 
-// The word's value and all that was added to it.
+/// The word's value and all that was added to it.
 fn total(laid: &[Option<Answer>], a: u32, opening: i64) -> i128
     requires { length laid.now < 2 ^ 32 }
     ensures { result ≡ fold (λ total answer. total +ℤ unwrap_or (entry_in answer a) (pos 0)) opening laid.now }
@@ -252,7 +277,7 @@ fn total(laid: &[Option<Answer>], a: u32, opening: i64) -> i128
     total
 }
 
-// What the answers leave in a word.
+/// What the answers leave in a word.
 fn value_in(kind: WordKind, laid: &[Option<Answer>], a: u32, opening: i64) -> i128
     requires { length laid.now < 2 ^ 32 }
     ensures value { result ≡ value_after kind laid.now a opening }
@@ -275,30 +300,7 @@ fn value_in(kind: WordKind, laid: &[Option<Answer>], a: u32, opening: i64) -> i1
     }
 }
 
-impl Stage {
-    /// Merges what is laid into the image, unless the step ends in a fault.
-    pub fn install(&mut self, image: &mut Image) -> Result<(), StepFault>
-        requires { self.old.kinds ≡ kinds_of image.old.memory }
-        ensures merged { Merges self.old image.old.memory image.new.memory result }
-        ensures kept { OnErr result (image.new ≡ image.old) }
-        ensures stage { self.new ≡ self.old }
-        ensures later { IsLater image.old image.new }
-    {
-        let k = least(&self.kinds, &self.laid);
-        if (k as usize) < self.laid.len() {
-            return Err(fault(&self.kinds, &self.laid, k));
-        }
-        match outside(image, &self.laid) {
-            Some(word) => Err(StepFault::Total { word }),
-            None => {
-                merge(image, &self.laid);
-                Ok(())
-            }
-        }
-    }
-}
-
-// Whether what the answers leave in a word is a total outside 64 bits.
+/// Whether what the answers leave in a word is a total outside 64 bits.
 fn is_outside_at(image: &Image, laid: &[Option<Answer>], a: u32) -> bool
     requires numbers { length laid.now < 2 ^ 32 }
     requires word { a < length image.now.memory }
@@ -313,7 +315,7 @@ fn is_outside_at(image: &Image, laid: &[Option<Answer>], a: u32) -> bool
     }
 }
 
-// The least word whose total is outside 64 bits.
+/// The least word whose total is outside 64 bits.
 fn outside(image: &Image, laid: &[Option<Answer>]) -> Option<u32>
     requires { length laid.now < 2 ^ 32 }
     ensures { result ≡ position is_outside (merged_memory image.now.memory laid.now) }
@@ -327,7 +329,7 @@ fn outside(image: &Image, laid: &[Option<Answer>]) -> Option<u32>
     None
 }
 
-// Writes what the answers leave, where no total is outside 64 bits.
+/// Writes what the answers leave, where no total is outside 64 bits.
 fn merge(image: &mut Image, laid: &[Option<Answer>])
     requires numbers { length laid.now < 2 ^ 32 }
     requires none { position is_outside (merged_memory image.old.memory laid.now) ≡ None }

@@ -1,9 +1,11 @@
+//! The arrival rule.
+
 ghost use Rattle.std.specs.Prelude.{◌≡◌, ◌<◌, ◌≤◌, true, IfOk, OnOk, OnErr, length, slice_set};
 ghost use Rattle.cal_base.specs.Claims.{is_full};
 ghost use Rattle.step_merge.specs.Staged.{size_of, IsFree, LaysAt};
 ghost use Rattle.ties_commit.specs.Committed.{Agree, AreSame, Commits, CutsAtLeast, answer_in, verdict_in};
 
-use cal_base::{CALLER, Cause, NoMemory, UpdateWords, Verdict};
+use cal_base::{CALLER, Cause, NoMemory, UpdateWords, Verdict, arrival_bound};
 use progress_table::ProgressTable;
 use std::alloc::Global;
 use step_merge::Stage;
@@ -11,7 +13,9 @@ use step_merge::Stage;
 /// What a routine answers, as it is delivered: its update, or why it failed.
 #[derive(Drop)]
 pub enum Delivery<'a, U> {
+    /// It came to its end, and wrote this.
     Update(&'a U),
+    /// It failed, and nothing that it wrote counts.
     Fault(Cause),
 }
 
@@ -20,10 +24,10 @@ pub fn is_full_for(who: u8, worker_arrivals: u32, n: u32) -> bool
     requires { n ≤ 65536 }
     ensures { result ≡ is_full who worker_arrivals n }
 {
-    who < CALLER && 2 * (3 * n + 32) + 32 <= worker_arrivals
+    who < CALLER && arrival_bound(n) <= worker_arrivals
 }
 
-// Lays the answer of routine k.
+/// Lays the answer of routine k.
 fn lay<U: UpdateWords>(
     alloc: Global,
     stage: &mut Stage,
@@ -44,7 +48,7 @@ fn lay<U: UpdateWords>(
     }
 }
 
-// Notes the first answer of routine k, and leaves no number above a faulty one wanted.
+/// Notes the first answer of routine k, and leaves no number above a faulty one wanted.
 fn note_first(table: &mut ProgressTable, stage: &Stage, k: u32)
     requires in_table { k < length table.old.claims }
     requires same_size { size_of stage.now ≡ length table.old.claims }

@@ -1,3 +1,5 @@
+//! Deliveries in a step of one routine.
+
 ghost use Rattle.std.specs.Prelude.{◌≡◌, ◌≤◌, ◌<◌, None, false, replicate, length};
 ghost use Rattle.step_merge.specs.Staged.{StandsFor};
 ghost use Rattle.ties_commit.specs.Committed.{Agree};
@@ -9,7 +11,7 @@ use std::alloc::Global;
 use std::test::Fail;
 use step_merge::Stage;
 
-// Table and stage of a step of one routine that begins agree.
+/// Table and stage of a step of one routine that begins agree.
 fn agreed(table: &ProgressTable, stage: &Stage)
     requires size { length table.now.claims ≡ 1 }
     requires done { table.now.done ≡ replicate 1 false }
@@ -18,7 +20,7 @@ fn agreed(table: &ProgressTable, stage: &Stage)
     ensures { Agree table.now stage.now }
 {}
 
-// The verdict on an answer of routine 0 of a step, where step 2 is open and has one routine.
+/// The verdict on an answer of routine 0 of a step, where step 2 is open and has one routine.
 fn judged(
     alloc: Global,
     claimed: ProgressTable,

@@ -18,3 +18,12 @@ returns-clause-fault_first c = Examples.later_fault_first
 
 pub returns-clause-skipped : goal.returns-clause-skipped
 returns-clause-skipped c = Examples.skipped_events
+
+pub returns-clause-dropped : goal.returns-clause-dropped
+returns-clause-dropped c = Examples.claim_is_dropped
+
+pub returns-clause-counts_for_nothing : goal.returns-clause-counts_for_nothing
+returns-clause-counts_for_nothing c = Examples.late_answer_counts_for_nothing
+
+pub returns-clause-still_delivers : goal.returns-clause-still_delivers
+returns-clause-still_delivers c = Examples.stopped_worker_delivers

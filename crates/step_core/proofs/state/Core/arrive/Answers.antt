@@ -1,10 +1,14 @@
 use Rattle.std.proofs.Common.{◌≢◌, sym, ap, ◌∙◌, arith, Some, vec_capacity}
 use Rattle.cal_base.specs.declared.step.Verdict.TheVariants.{Full}
-use Rattle.step_core.proofs.Arrivals.{agree_now, few_arrivals, verdict_agrees, may_arrive, arrival_fits, committed_keeps, not_full}
+use Rattle.step_core.proofs.Arrivals.{within_length, in_table, agree_now, few_arrivals, verdict_agrees, may_arrive, arrival_fits, committed_keeps, not_full}
 use Rattle.step_core.proofs.state.Core.arrive.Goals as goal
 
 pub commit-requires-clause-agree : goal.commit-requires-clause-agree
 commit-requires-clause-agree g c = agree_now _ _ _ _ _ _ _ _ c.self.invariant
+
+-- an answer of the job has a number of the step
+pub commit-requires-clause-number : goal.commit-requires-clause-number
+commit-requires-clause-number g c _ = in_table _ _ _ _ _ _ _ _ c.self.invariant _ _ c.args.done.now.is_answer
 
 pub raised-self-inside-requires : goal.raised-self-inside-requires
 raised-self-inside-requires g c = few_arrivals _ _ _ _ _ _ _ _ c.self.invariant
@@ -13,8 +17,8 @@ pub enter-requires : goal.enter-requires
 enter-requires g c =
     let entered : c.in_ok-verdict.verdict ≢ Full = not_full c.in_ok-verdict.verdict (sym c.is_entered.ensures ∙ c.if-is_entered.true) in
     let may =
-    may_arrive _ _ _ _ _ _ _ _ c.self.invariant c.args.self.now c.self.view_is c.args.who c.args.done.now.k c.in_ok-verdict.verdict c.requires.who c.requires.k c.requires.caller
-    (sym (c.in_ok-verdict.ensures.verdict ∙ verdict_agrees _ _ _ _ _ _ _ _ c.self.invariant c.args.who c.args.done.now.k c.requires.k))
+    may_arrive _ _ _ _ _ _ _ _ c.self.invariant c.args.self.now c.self.view_is c.args.who c.args.done.now.k c.in_ok-verdict.verdict c.requires.who (within_length _ _ _ c.args.done.now.is_answer) c.requires.caller
+    (sym (c.in_ok-verdict.ensures.verdict ∙ verdict_agrees _ _ _ _ _ _ _ _ c.self.invariant c.args.who c.args.done.now.k (within_length _ _ _ c.args.done.now.is_answer)))
     entered
     in
     omega (arith, arrival_fits _ _ _ _ _ _ _ _ c.self.invariant c.args.who c.self.inside.number c.args.done.now.k c.in_ok-verdict.verdict may, c.self.inside.history.ok.0)
@@ -23,8 +27,8 @@ pub invariant_of-self-then-is_entered : goal.invariant_of-self-then-is_entered
 invariant_of-self-then-is_entered g c =
     let entered : c.in_ok-verdict.verdict ≢ Full = not_full c.in_ok-verdict.verdict (sym c.is_entered.ensures ∙ c.if-is_entered.true) in
     let may =
-    may_arrive _ _ _ _ _ _ _ _ c.self.invariant c.args.self.now c.self.view_is c.args.who c.args.done.now.k c.in_ok-verdict.verdict c.requires.who c.requires.k c.requires.caller
-    (sym (c.in_ok-verdict.ensures.verdict ∙ verdict_agrees _ _ _ _ _ _ _ _ c.self.invariant c.args.who c.args.done.now.k c.requires.k))
+    may_arrive _ _ _ _ _ _ _ _ c.self.invariant c.args.self.now c.self.view_is c.args.who c.args.done.now.k c.in_ok-verdict.verdict c.requires.who (within_length _ _ _ c.args.done.now.is_answer) c.requires.caller
+    (sym (c.in_ok-verdict.ensures.verdict ∙ verdict_agrees _ _ _ _ _ _ _ _ c.self.invariant c.args.who c.args.done.now.k (within_length _ _ _ c.args.done.now.is_answer)))
     entered
     in
     rw c.enter.ensures.items
