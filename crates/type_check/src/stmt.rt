@@ -26,6 +26,15 @@ use csl_tree::program::{Arm, Expr, Form, Gives, Item, Place, RoutineBlock, Stmt,
 use sqlite_items::Items;
 use std::alloc::Global;
 
+/// The most items of a `print`.
+const MOST_ITEMS: usize = 64;
+
+/// The most locals of a body, parameters counted.
+const MOST_LOCALS: usize = 64;
+
+/// The most routine blocks of a step.
+const MOST_BLOCKS: usize = 64;
+
 fn is_main(body: Body) -> bool
     ensures { result ≡ statements.is_main body }
 {
@@ -149,7 +158,7 @@ fn item_at(item: &Item) -> u32
 fn note_many_items(found: &mut Found, items: &[Item])
     ensures { found.new ≡ noted found.old (beyond statements.most_items (map statements.item_at items.now)) }
 {
-    match items.get(64) {
+    match items.get(MOST_ITEMS) {
         Some(item) => found.note(CheckKind::Limit, item_at(item)),
         None => {}
     }
@@ -159,7 +168,7 @@ fn note_many_items(found: &mut Found, items: &[Item])
 pub(crate) fn note_many_locals(found: &mut Found, at: &[u32])
     ensures { found.new ≡ noted found.old (beyond statements.most_locals at.now) }
 {
-    match at.get(64) {
+    match at.get(MOST_LOCALS) {
         Some(at) => found.note(CheckKind::Limit, *at),
         None => {}
     }
@@ -169,7 +178,7 @@ pub(crate) fn note_many_locals(found: &mut Found, at: &[u32])
 fn note_many_blocks(found: &mut Found, blocks: &[RoutineBlock])
     ensures { found.new ≡ noted found.old (beyond statements.most_blocks (map block_at blocks.now)) }
 {
-    match blocks.get(64) {
+    match blocks.get(MOST_BLOCKS) {
         Some(block) => found.note(CheckKind::Limit, block.at),
         None => {}
     }
