@@ -8,7 +8,7 @@ ghost use Rattle.type_check.specs.Statements as statements;
 ghost use Rattle.type_check.specs.Bodies.{after};
 ghost use Rattle.type_check.specs.Listed.{beyond};
 ghost use Rattle.type_check.specs.Noted.{noted};
-ghost use Rattle.type_check.specs.Lists.{statements_of, arms_of, after_all, block_at, blocks_of, routine_of};
+ghost use Rattle.type_check.specs.Lists.{statements_of, arms_of, after_all, block_at, blocks_of, step_of, routine_of};
 
 use crate::body::{Body, Here};
 use crate::expr::{
@@ -266,15 +266,7 @@ fn check_stmt(
             note_many_items(found, items.as_slice());
             Ok(())
         }
-        Form::Par(blocks) => {
-            if is_main(body) {
-                check_blocks(alloc, found, body, globals, locals, blocks.as_slice())?;
-                note_many_blocks(found, blocks.as_slice());
-                return Ok(());
-            }
-            found.note(CheckKind::OnlyInMain, s.at);
-            Ok(())
-        }
+        Form::Par(blocks) => check_step(alloc, found, body, globals, locals, s.at, blocks),
     }
 }
 
@@ -352,6 +344,28 @@ fn check_arms(
         check_value(found, here.body, globals, locals, Typed::Bool, &arm.test);
         check_block(alloc, found, here, globals, locals, arm.body.as_slice())?;
     }
+    Ok(())
+}
+
+/// Notes the faults of a step. One that does not stand in main has no other fault than that.
+#[cycle(stmt)]
+fn check_step(
+    alloc: Global,
+    found: &mut Found,
+    body: Body,
+    globals: &Table,
+    locals: &Table,
+    at: u32,
+    blocks: &Items<RoutineBlock>,
+) -> Result<(), NoMemory>
+    ensures { OnOk result (found.new ≡ noted found.old (step_of globals.now body (globals.now ++ locals.now) at blocks.now)) }
+{
+    if is_main(body) {
+        check_blocks(alloc, found, body, globals, locals, blocks.as_slice())?;
+        note_many_blocks(found, blocks.as_slice());
+        return Ok(());
+    }
+    found.note(CheckKind::OnlyInMain, at);
     Ok(())
 }
 
