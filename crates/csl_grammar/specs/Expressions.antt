@@ -72,9 +72,11 @@ start_of e = (out-Expr e).at
 abbrev pub binary : BinaryOp → Expr → Expr → Expr
 binary op left right = expr (start_of left) (node.Binary op left right)
 
+-- a name, and its index if it has one
 abbrev pub place : Name → Option Expr → Place
 place name index = roll-Place (record { name = name; index = index })
 
+-- a name, and the arguments that it is called with
 abbrev pub call : Name → List Expr → Call
 call name args = roll-Call (record { name = name; args = args })
 

@@ -78,6 +78,7 @@ abbrev pub between : List ℕ → ℕ
 between [] = 0
 between (level ∷ opened) = level + 1
 
+-- the nesting behind a token that does this
 abbrev pub turned : Turn → Nesting → Nesting
 turned Opens nesting = record { level = nesting.level + 1; opened = nesting.level ∷ nesting.opened }
 turned Closes nesting = closed nesting nesting.opened

@@ -29,12 +29,15 @@ use Rattle.csl_tree.specs.declared.program.Arm.{Arm, roll-Arm}
 use Rattle.csl_tree.specs.declared.program.RoutineBlock.{RoutineBlock, roll-RoutineBlock}
 use Rattle.csl_grammar.specs.Expressions.{SpellsExpr, SpellsArguments, whole, place, call}
 
+-- the token is that mark
 abbrev pub IsMark : Token → Mark → Type 0
 IsMark token m = token.kind ≡ kind.Mark m
 
+-- the token is that keyword
 abbrev pub IsWord : Token → Keyword → Type 0
 IsWord token w = token.kind ≡ kind.Word w
 
+-- the token is that name
 abbrev pub IsName : Token → Name → Type 0
 IsName token name = token.kind ≡ kind.Named name
 
@@ -42,13 +45,16 @@ IsName token name = token.kind ≡ kind.Named name
 abbrev pub stmt : ℕ → Form → Stmt
 stmt at f = roll-Stmt (record { at = at; form = f })
 
+-- a test of an `if` and the block behind it
 abbrev pub arm : Expr → List Stmt → Arm
 arm test body = roll-Arm (record { test = test; body = body })
 
+-- the word of a type
 abbrev pub type_word : Ty → Keyword
 type_word ty.Int = word.Int
 type_word ty.Bool = word.Bool
 
+-- the word before a function's name, for what it gives back
 abbrev pub result_word : Gives → Keyword
 result_word gives.Nothing = word.Void
 result_word gives.Int = word.Int
@@ -105,6 +111,7 @@ pub data SpellsItem : List Token → List Token → Item → Type 0 where
   value : {tokens rest : List Token} {e : Expr} → SpellsExpr whole tokens rest e → SpellsItem tokens rest (item.Value e)
 
 mutual
+  -- a statement: a declaration, a change or a call, each with `;` behind it; a block; an `if`; a loop; or one that a keyword begins
   pub data SpellsStmt : List Token → List Token → Stmt → Type 0 where
     declared : {semicolon : Token} {tokens rest : List Token} {s : Stmt} →
         SpellsDecl tokens (semicolon ∷ rest) s → IsMark semicolon mark.Semicolon → SpellsStmt tokens rest s
@@ -212,6 +219,7 @@ pub data SpellsInitial : List Token → List Token → Bool → List Valued → 
       IsMark equals mark.Assign → IsMark opening mark.OpenBrace → ListOf SpellsValue tokens (closing ∷ rest) vs → IsMark closing mark.CloseBrace →
       SpellsInitial (equals ∷ opening ∷ tokens) rest true vs
 
+-- a shared declaration: a word, an array, or a tally word
 pub data SpellsShared : List Token → List Token → Shared → Type 0 where
   -- "int" NAME ";"
   scalar : {first token semicolon : Token} {rest : List Token} {name : Name} →

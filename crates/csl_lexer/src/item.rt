@@ -12,6 +12,9 @@ use csl_tree::name::{Name, Text};
 use csl_tree::token::TokenKind;
 use std::alloc::Global;
 
+/// The most bytes of a name or keyword.
+const MOST_NAME_BYTES: usize = 64;
+
 /// A token, or none for a blank or a comment, and how many bytes it takes.
 type Piece = (Option<TokenKind>, usize);
 
@@ -68,7 +71,7 @@ fn word(alloc: Global, at: u32, bytes: &[u8]) -> Result<Piece, LexError>
     ensures { Steps at bytes.now result }
 {
     let length = run_length(ByteClass::InName, bytes);
-    if length > 64 {
+    if length > MOST_NAME_BYTES {
         return Err(LexError::LongName(at));
     }
     let kind = word_kind(alloc, at, &bytes[..length])?;

@@ -56,9 +56,10 @@ impl<T: Drop> From<AllocFailed<T>> for LexError {
     }
 }
 
-/// The tokens of a text of at most 1,048,576 bytes, with the end of the text as the last one.
+/// The tokens of a text of at most 1,048,576 bytes, with the end of the text as the last one; or the text's first fault, or
+/// `NoMemory` where there is no memory for the tokens.
 pub fn lex(alloc: Global, text: &[u8]) -> Result<Vec<Token>, LexError>
-    requires { length text.now ≤ 1048576 }
+    requires { length text.now ≤ 1_048_576 }
     ensures tokens { IfOk result (λ tokens. IsTokenList text.now tokens.items) }
     ensures first_fault { IfErr result (λ e. e ≢ fault.NoMemory → IsFirstFault text.now e) }
 {

@@ -36,7 +36,7 @@ pub fn shared(alloc: Global, tokens: &[Token]) -> Result<(Shared, &[Token]), Par
     Err(ParseError::Unexpected(first.at))
 }
 
-// A tally word, behind its first keyword.
+/// A tally word, behind its first keyword.
 fn tally(alloc: Global, tokens: &[Token]) -> Result<(Shared, &[Token]), ParseError>
     requires { IsEnded tokens.now }
     ensures answer { Answers TallyRest stops_anywhere tokens.now (λ x. (x.0, x.1.now)) result }
@@ -55,7 +55,7 @@ fn tally(alloc: Global, tokens: &[Token]) -> Result<(Shared, &[Token]), ParseErr
     Ok((declared, rest))
 }
 
-// An ordinary word or an array, behind its keyword.
+/// An ordinary word or an array, behind its keyword.
 fn ordinary(alloc: Global, tokens: &[Token]) -> Result<(Shared, &[Token]), ParseError>
     requires { IsEnded tokens.now }
     ensures answer { Answers IntRest stops_anywhere tokens.now (λ x. (x.0, x.1.now)) result }
@@ -77,7 +77,7 @@ fn ordinary(alloc: Global, tokens: &[Token]) -> Result<(Shared, &[Token]), Parse
     Ok((declared, rest))
 }
 
-// An array, behind the bracket.
+/// An array, behind the bracket.
 fn array<'a>(
     alloc: Global,
     name: &'a Name,
@@ -104,7 +104,7 @@ fn array<'a>(
     Ok((declared, rest))
 }
 
-// The listed values of an array, behind the sign.
+/// The listed values of an array, behind the sign.
 fn listed<'a>(
     alloc: Global,
     name: &'a Name,
@@ -128,7 +128,7 @@ fn listed<'a>(
     Ok((declared, rest))
 }
 
-// Values with commas between, and the brace behind them.
+/// Values with commas between, and the brace behind them.
 fn values(alloc: Global, tokens: &[Token]) -> Result<(Items<Valued>, &[Token]), ParseError>
     requires { IsEnded tokens.now }
     ensures answer { Answers (ListUntil (kind.Mark mark.CloseBrace) SpellsValue) stops_anywhere tokens.now (λ x. (x.0, x.1.now)) result }
@@ -150,7 +150,7 @@ fn values(alloc: Global, tokens: &[Token]) -> Result<(Items<Valued>, &[Token]), 
     Ok((values, rest))
 }
 
-// An initial value.
+/// An initial value.
 fn value(tokens: &[Token]) -> Result<(Valued, &[Token]), ParseError>
     requires { IsEnded tokens.now }
     ensures answer { Answers SpellsValue stops_anywhere tokens.now (λ x. (x.0, x.1.now)) result }
@@ -172,7 +172,7 @@ fn value(tokens: &[Token]) -> Result<(Valued, &[Token]), ParseError>
     }
 }
 
-// A negative initial value, behind its sign.
+/// A negative initial value, behind its sign.
 fn negative<'a>(sign: &'a Token, tokens: &'a [Token]) -> Result<(Valued, &'a [Token]), ParseError>
     requires sign { sign.now.kind ≡ kind.Mark mark.Minus }
     requires ended { IsEnded tokens.now }

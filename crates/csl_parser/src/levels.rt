@@ -10,7 +10,7 @@ use csl_tree::token::{Keyword, Mark, Token, TokenKind};
 use std::alloc::Global;
 use std::marker::Model;
 
-// The highest level of a token.
+/// The highest level of a token.
 const MOST_LEVELS: u8 = 64;
 
 /// Nothing where no token's level is above 64.
@@ -33,7 +33,7 @@ pub fn check(alloc: Global, tokens: &[Token]) -> Result<(), ParseError>
 #[derive(Drop)]
 struct Nesting {
     level: u8,
-    // The last one last.
+    /// The last one last.
     opened: Vec<u8>,
 }
 
@@ -47,7 +47,7 @@ impl Model for Nesting {
 }
 
 impl Nesting {
-    // Before the first token.
+    /// Before the first token.
     fn outermost(alloc: Global) -> Nesting
         ensures { result ≡ outermost }
     {
@@ -57,14 +57,14 @@ impl Nesting {
         }
     }
 
-    // The level of the last token.
+    /// The level of the last token.
     fn level(&self) -> u8
         ensures { result ≡ self.now.level }
     {
         self.level
     }
 
-    // Takes a token in.
+    /// Takes a token in.
     fn turn(&mut self, token: &Token) -> Result<(), NoMemory>
         requires { IsLow self.old }
         ensures { IfOk result (λ _. self.new ≡ behind token.now self.old) }
@@ -80,7 +80,7 @@ impl Nesting {
         }
     }
 
-    // Takes a mark in.
+    /// Takes a mark in.
     fn turn_at(&mut self, mark: Mark) -> Result<(), NoMemory>
         requires { IsLow self.old }
         ensures { IfOk result (λ _. self.new ≡ turned (turn_of_mark mark) self.old) }
@@ -95,7 +95,7 @@ impl Nesting {
         Ok(())
     }
 
-    // A bracket opens.
+    /// A bracket opens.
     fn open(&mut self) -> Result<(), NoMemory>
         requires { IsLow self.old }
         ensures { IfOk result (λ _. self.new ≡ turned Opens self.old) }
@@ -105,7 +105,7 @@ impl Nesting {
         Ok(())
     }
 
-    // A bracket closes.
+    /// A bracket closes.
     fn close(&mut self)
         ensures { self.new ≡ turned Closes self.old }
     {
@@ -114,7 +114,7 @@ impl Nesting {
         }
     }
 
-    // Something ends between brackets.
+    /// Something ends between brackets.
     fn part(&mut self)
         requires { IsLow self.old }
         ensures { self.new ≡ turned Parts self.old }

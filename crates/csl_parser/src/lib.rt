@@ -29,10 +29,12 @@ use std::alloc::{AllocError, AllocFailed, Global};
 /// Why tokens are no program's.
 #[derive(Clone, Copy, Debug, PartialEq, Eq)]
 pub enum ParseError {
-    /// The place of the first token whose level is above 64.
+    /// A token's level is above 64: the first such token's place, in bytes from 0.
     TooDeep(u32),
-    /// The place of the first token that no program allows.
+    /// No token's level is above 64, and a token stands where no program has it behind those before it: the first such token's
+    /// place, in bytes from 0.
     Unexpected(u32),
+    /// Memory was wanted and not there.
     NoMemory,
 }
 
@@ -58,7 +60,8 @@ impl From<AllocError> for ParseError {
     }
 }
 
-/// The one program that the tokens of a text spell. Levels are tested first, over all the tokens, and then the grammar.
+/// The one program that the tokens of a text spell. Levels are tested first, over all the tokens, and then the grammar: `TooDeep`
+/// and `Unexpected` say where tokens that spell none are wrong, and `NoMemory` that there was no memory for the work.
 pub fn parse(alloc: Global, tokens: &[Token]) -> Result<Program, ParseError>
     requires { SomeText tokens.now }
     ensures spelled { IfOk result (λ p. IsFlat tokens.now × SpellsProgram tokens.now p) }

@@ -36,7 +36,7 @@ pub fn program(alloc: Global, tokens: &[Token]) -> Result<Program, ParseError>
     }
 }
 
-// A program but for its end.
+/// A program but for its end.
 fn unended(alloc: Global, tokens: &[Token]) -> Result<(Program, &[Token]), ParseError>
     requires { IsEnded tokens.now }
     ensures { Answers ProgramTokens stops_anywhere tokens.now (λ x. (x.0, x.1.now)) result }
@@ -54,7 +54,7 @@ fn unended(alloc: Global, tokens: &[Token]) -> Result<(Program, &[Token]), Parse
     Ok((read, rest))
 }
 
-// The shared declarations, and the brace behind them.
+/// The shared declarations, and the brace behind them.
 fn declarations(alloc: Global, tokens: &[Token]) -> Result<(Items<Shared>, &[Token]), ParseError>
     requires { IsEnded tokens.now }
     ensures { Answers (Until (kind.Mark mark.CloseBrace) SpellsShared []) stops_anywhere tokens.now (λ x. (x.0, x.1.now)) result }
@@ -72,7 +72,7 @@ fn declarations(alloc: Global, tokens: &[Token]) -> Result<(Items<Shared>, &[Tok
     }
 }
 
-// The functions, and the `main` behind them.
+/// The functions, and the `main` behind them.
 fn functions(alloc: Global, tokens: &[Token]) -> Result<(Items<Function>, &[Token]), ParseError>
     requires { IsEnded tokens.now }
     ensures { Answers (Until (kind.Word word.Main) SpellsFunction []) stops_anywhere tokens.now (λ x. (x.0, x.1.now)) result }
@@ -90,7 +90,7 @@ fn functions(alloc: Global, tokens: &[Token]) -> Result<(Items<Function>, &[Toke
     }
 }
 
-// A function.
+/// A function.
 fn function(alloc: Global, tokens: &[Token]) -> Result<(Function, &[Token]), ParseError>
     requires { IsEnded tokens.now }
     ensures answer { Answers SpellsFunction stops_anywhere tokens.now (λ x. (x.0, x.1.now)) result }
@@ -103,7 +103,7 @@ fn function(alloc: Global, tokens: &[Token]) -> Result<(Function, &[Token]), Par
     }
 }
 
-// A function, behind the word for what it gives.
+/// A function, behind the word for what it gives.
 fn signature(
     alloc: Global,
     gives: Gives,
@@ -126,7 +126,7 @@ fn signature(
     Ok((declared, rest))
 }
 
-// Parameters with commas between, and the parenthesis behind them.
+/// Parameters with commas between, and the parenthesis behind them.
 fn parameters(alloc: Global, tokens: &[Token]) -> Result<(Items<Param>, &[Token]), ParseError>
     requires { IsEnded tokens.now }
     ensures answer { Answers (ListUntil (kind.Mark mark.CloseParen) SpellsParam) stops_anywhere tokens.now (λ x. (x.0, x.1.now)) result }
@@ -148,7 +148,7 @@ fn parameters(alloc: Global, tokens: &[Token]) -> Result<(Items<Param>, &[Token]
     Ok((params, rest))
 }
 
-// A parameter.
+/// A parameter.
 fn parameter(alloc: Global, tokens: &[Token]) -> Result<(Param, &[Token]), ParseError>
     requires { IsEnded tokens.now }
     ensures answer { Answers SpellsParam stops_anywhere tokens.now (λ x. (x.0, x.1.now)) result }
@@ -161,7 +161,7 @@ fn parameter(alloc: Global, tokens: &[Token]) -> Result<(Param, &[Token]), Parse
     }
 }
 
-// A parameter, behind its type.
+/// A parameter, behind its type.
 fn named(alloc: Global, ty: Ty, tokens: &[Token]) -> Result<(Param, &[Token]), ParseError>
     requires { IsEnded tokens.now }
     ensures answer { Answers (ParamRest ty) stops_anywhere tokens.now (λ x. (x.0, x.1.now)) result }
@@ -175,7 +175,7 @@ fn named(alloc: Global, ty: Ty, tokens: &[Token]) -> Result<(Param, &[Token]), P
     Ok((declared, rest))
 }
 
-// The type that a token is the word of.
+/// The type that a token is the word of.
 fn type_of(token: &Token) -> Option<Ty>
     ensures { MatchOption result ((t : Ty) → token.now.kind ≢ kind.Word (type_word t)) (λ t. token.now.kind ≡ kind.Word (type_word t)) }
 {
@@ -186,7 +186,7 @@ fn type_of(token: &Token) -> Option<Ty>
     }
 }
 
-// What a function gives that begins with a token.
+/// What a function gives that begins with a token.
 fn result_type(token: &Token) -> Option<Gives>
     ensures { MatchOption result ((g : Gives) → token.now.kind ≢ kind.Word (result_word g)) (λ g. token.now.kind ≡ kind.Word (result_word g)) }
 {

@@ -86,7 +86,7 @@ pub fn change<'a>(
     changing(alloc, first, place, tokens)
 }
 
-// A change of an array's item, behind the bracket.
+/// A change of an array's item, behind the bracket.
 fn indexed<'a>(
     alloc: Global,
     first: &'a Token,
@@ -107,7 +107,7 @@ fn indexed<'a>(
     changing(alloc, first, place, rest)
 }
 
-// What becomes of a place: the sign and the value.
+/// What becomes of a place: the sign and the value.
 fn changing<'a>(
     alloc: Global,
     first: &'a Token,
@@ -174,7 +174,7 @@ pub fn named<'a>(
     ended(s, rest)
 }
 
-// A call as a statement, behind the parenthesis.
+/// A call as a statement, behind the parenthesis.
 fn call<'a>(
     alloc: Global,
     first: &'a Token,
@@ -257,7 +257,7 @@ pub fn printed<'a>(
     bare(first, Form::Print(items), rest)
 }
 
-// Items with commas between, and the parenthesis behind them.
+/// Items with commas between, and the parenthesis behind them.
 fn items(alloc: Global, tokens: &[Token]) -> Result<(Items<Item>, &[Token]), ParseError>
     requires { IsEnded tokens.now }
     ensures answer { Answers (ListUntil (kind.Mark mark.CloseParen) SpellsItem) stops_anywhere tokens.now (λ x. (x.0, x.1.now)) result }
@@ -279,7 +279,7 @@ fn items(alloc: Global, tokens: &[Token]) -> Result<(Items<Item>, &[Token]), Par
     Ok((items, rest))
 }
 
-// A text or a value that is printed. No operator stands behind it.
+/// A text or a value that is printed. No operator stands behind it.
 fn item(alloc: Global, tokens: &[Token]) -> Result<(Item, &[Token]), ParseError>
     requires { IsEnded tokens.now }
     ensures answer { Answers SpellsItem (Stops whole) tokens.now (λ x. (x.0, x.1.now)) result }
@@ -293,7 +293,7 @@ fn item(alloc: Global, tokens: &[Token]) -> Result<(Item, &[Token]), ParseError>
     Ok((Item::Value(value), rest))
 }
 
-// A text that is printed, behind it. No bracket and no operator stands there.
+/// A text that is printed, behind it. No bracket and no operator stands there.
 fn quoted<'a>(
     alloc: Global,
     text: &'a Name,

@@ -35,7 +35,7 @@ pub fn block(alloc: Global, tokens: &[Token]) -> Result<(Items<Stmt>, &[Token]),
     statements(alloc, rest)
 }
 
-// The statements of a block and the brace behind them.
+/// The statements of a block and the brace behind them.
 #[cycle(stmt)]
 fn statements(alloc: Global, tokens: &[Token]) -> Result<(Items<Stmt>, &[Token]), ParseError>
     requires { IsEnded tokens.now }
@@ -53,7 +53,7 @@ fn statements(alloc: Global, tokens: &[Token]) -> Result<(Items<Stmt>, &[Token])
     Ok((body, rest))
 }
 
-// A statement.
+/// A statement.
 #[cycle(stmt)]
 fn statement(alloc: Global, tokens: &[Token]) -> Result<(Stmt, &[Token]), ParseError>
     requires { IsEnded tokens.now }
@@ -78,7 +78,7 @@ fn statement(alloc: Global, tokens: &[Token]) -> Result<(Stmt, &[Token]), ParseE
     leaf(alloc, first, rest)
 }
 
-// A statement that holds statements, behind its keyword.
+/// A statement that holds statements, behind its keyword.
 #[cycle(stmt)]
 fn nested<'a>(
     alloc: Global,
@@ -106,7 +106,7 @@ fn nested<'a>(
     }
 }
 
-// An `if`, behind its keyword, with all its arms.
+/// An `if`, behind its keyword, with all its arms.
 #[cycle(stmt)]
 fn choice<'a>(
     alloc: Global,
@@ -143,7 +143,7 @@ fn choice<'a>(
     Ok((chosen, rest))
 }
 
-// A test in parentheses and the block behind it.
+/// A test in parentheses and the block behind it.
 #[cycle(stmt)]
 fn arm(alloc: Global, tokens: &[Token]) -> Result<(Arm, &[Token]), ParseError>
     requires { IsEnded tokens.now }
@@ -157,7 +157,7 @@ fn arm(alloc: Global, tokens: &[Token]) -> Result<(Arm, &[Token]), ParseError>
     Ok((Arm { test, body }, rest))
 }
 
-// A `while`, behind its keyword.
+/// A `while`, behind its keyword.
 #[cycle(stmt)]
 fn while_loop<'a>(
     alloc: Global,
@@ -179,7 +179,7 @@ fn while_loop<'a>(
     not_else(repeated, rest)
 }
 
-// A `for`, behind its keyword.
+/// A `for`, behind its keyword.
 #[cycle(stmt)]
 fn for_loop<'a>(
     alloc: Global,
@@ -212,7 +212,7 @@ fn for_loop<'a>(
     not_else(repeated, rest)
 }
 
-// The routine blocks of a step and the keyword behind them.
+/// The routine blocks of a step and the keyword behind them.
 #[cycle(stmt)]
 fn routines(alloc: Global, tokens: &[Token]) -> Result<(Items<RoutineBlock>, &[Token]), ParseError>
     requires { IsEnded tokens.now }
@@ -231,7 +231,7 @@ fn routines(alloc: Global, tokens: &[Token]) -> Result<(Items<RoutineBlock>, &[T
     Ok((blocks, rest))
 }
 
-// A routine block.
+/// A routine block.
 #[cycle(stmt)]
 fn routine(alloc: Global, tokens: &[Token]) -> Result<(RoutineBlock, &[Token]), ParseError>
     requires { IsEnded tokens.now }

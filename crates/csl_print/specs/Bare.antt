@@ -24,12 +24,14 @@ use Rattle.csl_tree.specs.declared.program.Form.TheVariants as form
 use Rattle.csl_grammar.specs.Expressions.{expr, place, call}
 use Rattle.csl_grammar.specs.Programs.{stmt, arm}
 
+-- a name at position 0
 abbrev pub bare_name : Name → Name
 bare_name name = record { text = name.text; at = 0 }
 
 -- ---- expressions
 
 abbrev mutual
+  -- the same expression, all its positions 0
   pub bare_node : Node → Node
   bare_node (tree.Number z) = node.Number z
   bare_node (tree.Truth b) = node.Truth b
@@ -39,10 +41,12 @@ abbrev mutual
   bare_node (tree.Binary' op shape a shape' b) = node.Binary op (bare_boxed a) (bare_boxed b)
   bare_node (tree.Paren' shape a) = node.Paren (bare_boxed a)
 
+  -- the same place
   pub bare_place : Place → Place
   bare_place (Place' name None') = place (bare_name name) None
   bare_place (Place' name (Some' shape i)) = place (bare_name name) (Some (bare_boxed i))
 
+  -- the same call
   pub bare_call : Call → Call
   bare_call (Call' name shape args) = call (bare_name name) (bare_row args)
 
@@ -51,13 +55,16 @@ abbrev mutual
   bare_boxed end_of-Expr = expr 0 (node.Truth false)
   bare_boxed (more_of-Expr at n rest) = expr 0 (bare_node n)
 
+  -- several expressions
   pub bare_row : {n : _} → Row_of-Expr n → List Expr
   bare_row end_of-Expr = []
   bare_row (more_of-Expr at n rest) = expr 0 (bare_node n) ∷ bare_row rest
 
+-- the same expression, itself at position 0 too
 abbrev pub bare_expr : Expr → Expr
 bare_expr e = expr 0 (bare_node e.node)
 
+-- an item of a `print`
 abbrev pub bare_item : Item → Item
 bare_item (item.Text text) = item.Text (bare_name text)
 bare_item (item.Value e) = item.Value (bare_expr e)
@@ -65,6 +72,7 @@ bare_item (item.Value e) = item.Value (bare_expr e)
 -- ---- statements
 
 abbrev mutual
+  -- the same form of a statement, all its positions 0
   pub bare_form : Form → Form
   bare_form (tree_form.Declare ty name value) = form.Declare ty (bare_name name) (bare_expr value)
   bare_form (tree_form.Set p value) = form.Set (bare_place p) (bare_expr value)
@@ -82,6 +90,7 @@ abbrev mutual
   bare_form (tree_form.Print items) = form.Print (map bare_item items)
   bare_form (tree_form.Par' shape blocks) = form.Par (bare_routines blocks)
 
+  -- several statements
   pub bare_statements : {n : _} → Row_of-Stmt n → List Stmt
   bare_statements end_of-Stmt = []
   bare_statements (more_of-Stmt at f rest) = stmt 0 (bare_form f) ∷ bare_statements rest
@@ -91,36 +100,45 @@ abbrev mutual
   bare_part end_of-Stmt = stmt 0 form.Break
   bare_part (more_of-Stmt at f rest) = stmt 0 (bare_form f)
 
+  -- the arms of an `if`
   pub bare_arms : {n : _} → Row_of-Arm n → List Arm
   bare_arms end_of-Arm = []
   bare_arms (more_of-Arm (Arm' test shape body) rest) = arm (bare_expr test) (bare_statements body) ∷ bare_arms rest
 
+  -- the last block of an `if`, if it has one
   pub bare_last : Held-Form-If-1 → Option (List Stmt)
   bare_last tree_form.None' = None
   bare_last (tree_form.Some' shape body) = Some (bare_statements body)
 
+  -- the routine blocks of a step
   pub bare_routines : {n : _} → Row_of-RoutineBlock n → List RoutineBlock
   bare_routines end_of-RoutineBlock = []
   bare_routines (more_of-RoutineBlock (RoutineBlock' at width width_name id_name shape body) rest) =
       roll-RoutineBlock (record { at = 0; width = bare_expr width; width_name = bare_name width_name; id_name = bare_name id_name; body = bare_statements body }) ∷ bare_routines rest
 
+-- the same statement, all its positions 0
 abbrev pub bare_stmt : Stmt → Stmt
 bare_stmt s = stmt 0 (bare_form s.form)
 
 -- ---- programs
 
+-- an initial value
 abbrev pub bare_value : Valued → Valued
 bare_value v = record { at = 0; number = v.number }
 
+-- the size of an array
 abbrev pub bare_size : ArraySize → ArraySize
 bare_size size = record { at = 0; number = size.number }
 
+-- a shared declaration
 abbrev pub bare_shared : Shared → Shared
 bare_shared s = record { name = bare_name s.name; kind = s.kind; size = option_map bare_size s.size; values = map bare_value s.values; listed = s.listed }
 
+-- a parameter of a function
 abbrev pub bare_param : Param → Param
 bare_param p = record { name = bare_name p.name; ty = p.ty }
 
+-- a function
 abbrev pub bare_function : Function → Function
 bare_function f = record { name = bare_name f.name; gives = f.gives; params = map bare_param f.params; body = map bare_stmt f.body }
 

@@ -37,6 +37,7 @@ turn_of_word keyword.Parbegin = turn.Opens
 turn_of_word keyword.Parend = turn.Leaves
 turn_of_word _ = turn.Stays
 
+-- what a token does to the lines
 abbrev pub turn_of : TokenKind → Turn
 turn_of (kind.Word w) = turn_of_word w
 turn_of (kind.Mark m) = turn_of_mark m

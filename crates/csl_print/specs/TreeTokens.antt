@@ -32,18 +32,23 @@ use Rattle.csl_grammar.specs.Programs.{type_word, result_word}
 
 -- ---- one token
 
+-- a mark
 abbrev pub mark : Mark → List TokenKind
 mark m = kind.Mark m ∷ []
 
+-- a keyword
 abbrev pub word : Keyword → List TokenKind
 word w = kind.Word w ∷ []
 
+-- a name
 abbrev pub named : Name → List TokenKind
 named name = kind.Named name ∷ []
 
+-- a number
 abbrev pub number : ℤ → List TokenKind
 number z = kind.Number z ∷ []
 
+-- a text in quotes
 abbrev pub quoted : Name → List TokenKind
 quoted text = kind.Text text ∷ []
 
@@ -79,6 +84,7 @@ in_braces inner = mark OpenBrace ++ inner ++ mark CloseBrace
 -- ---- expressions
 
 abbrev mutual
+  -- an expression: operators stand between their operands or before them, and parentheses where the tree has them
   pub node_tokens : Node → List TokenKind
   node_tokens (tree.Number z) = number z
   node_tokens (tree.Truth b) = word (truth_word b)
@@ -112,6 +118,7 @@ abbrev mutual
   further_tokens end_of-Expr = []
   further_tokens (more_of-Expr at node rest) = mark Comma ++ node_tokens node ++ further_tokens rest
 
+-- an expression
 abbrev pub expr_tokens : Expr → List TokenKind
 expr_tokens e = node_tokens e.node
 
@@ -204,6 +211,7 @@ abbrev mutual
   routines_tokens (more_of-RoutineBlock (RoutineBlock' at width width_name id_name shape body) rest) =
       routine_of width width_name id_name (statements_tokens body) ++ routines_tokens rest
 
+-- a statement, with the semicolon behind it
 abbrev pub statement_tokens : Stmt → List TokenKind
 statement_tokens s = form_tokens s.form ++ ending s.form
 
@@ -211,9 +219,11 @@ statement_tokens s = form_tokens s.form ++ ending s.form
 abbrev pub body_tokens : List Stmt → List TokenKind
 body_tokens body = in_braces (each statement_tokens body)
 
+-- an arm of an `if`: its test and its statements
 abbrev pub arm_tokens : Arm → List TokenKind
 arm_tokens a = arm_of (out-Arm a).test (each statement_tokens (out-Arm a).body)
 
+-- a routine block: its width, its two parameters and its statements
 abbrev pub routine_tokens : RoutineBlock → List TokenKind
 routine_tokens r = routine_of (out-RoutineBlock r).width (out-RoutineBlock r).width_name (out-RoutineBlock r).id_name (each statement_tokens (out-RoutineBlock r).body)
 
@@ -228,10 +238,12 @@ signed_tokens (negsuc n) = mark Minus ++ number (pos (suc n))
 abbrev pub value_tokens : Valued → List TokenKind
 value_tokens v = signed_tokens v.number
 
+-- the words before the name of a shared declaration
 abbrev pub kind_tokens : WordKind → List TokenKind
 kind_tokens words.Ordinary = word keyword.Int
 kind_tokens words.Tally = word keyword.Tally ++ word keyword.Int
 
+-- the size in brackets, if there is one
 abbrev pub size_tokens : Option ArraySize → List TokenKind
 size_tokens None = []
 size_tokens (Some size) = mark OpenBracket ++ number size.number ++ mark CloseBracket
@@ -241,14 +253,17 @@ abbrev pub initial_tokens : Bool → List Valued → List TokenKind
 initial_tokens false values = []
 initial_tokens true values = mark Assign ++ in_braces (separated value_tokens values)
 
+-- a shared declaration
 abbrev pub shared_tokens : Shared → List TokenKind
 shared_tokens s = kind_tokens s.kind ++ named s.name ++ size_tokens s.size ++ initial_tokens s.listed s.values ++ mark Semicolon
 
 -- ---- functions, programs
 
+-- a parameter of a function
 abbrev pub param_tokens : Param → List TokenKind
 param_tokens p = word (type_word p.ty) ++ named p.name
 
+-- a function
 abbrev pub function_tokens : Function → List TokenKind
 function_tokens f = word (result_word f.gives) ++ named f.name ++ in_parens (separated param_tokens f.params) ++ body_tokens f.body
 

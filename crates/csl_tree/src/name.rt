@@ -21,6 +21,7 @@ impl Model for Text {
 }
 
 impl Text {
+    /// A text of its own with these bytes, or `NoMemory` where there is no memory for them.
     pub fn from_slice(alloc: Global, bytes: &[u8]) -> Result<Text, NoMemory>
         ensures { IfOk result (λ t. t ≡ bytes.now) }
     {
@@ -28,6 +29,7 @@ impl Text {
         Ok(Text { bytes })
     }
 
+    /// The bytes.
     pub fn as_slice(&self) -> &[u8]
         ensures { result.now ≡ self.now }
     {
@@ -35,9 +37,11 @@ impl Text {
     }
 }
 
-/// A text of the program and the position of its first byte.
+/// A name of the program, or a text that it prints, and where that stands.
 #[derive(Debug, Drop)]
 pub struct Name {
+    /// The bytes of the name, or those between the quotes of the text.
     pub text: Text,
+    /// The byte, from 0, at which the name begins, or the text's opening quote stands.
     pub at: u32,
 }

@@ -19,6 +19,7 @@ pub enum Gives {
     Bool,
 }
 
+/// A whole program: its shared declarations, its functions and the statements of main, each in the text's order.
 #[derive(Debug, Drop)]
 pub struct Program {
     pub shared: Items<Shared>,
@@ -37,8 +38,10 @@ pub struct Shared {
     pub listed: bool,
 }
 
+/// The size of an array, as it is written.
 #[derive(Clone, Copy, PartialEq, Eq, Debug)]
 pub struct ArraySize {
+    /// The byte, from 0, of its number.
     pub at: u32,
     pub number: i64,
 }
@@ -46,10 +49,12 @@ pub struct ArraySize {
 /// An initial value.
 #[derive(Clone, Copy, PartialEq, Eq, Debug)]
 pub struct Valued {
+    /// The byte, from 0, of its sign, or of its number where it has no sign.
     pub at: u32,
     pub number: i64,
 }
 
+/// A function of the program.
 #[derive(Debug, Drop)]
 pub struct Function {
     pub name: Name,
@@ -58,19 +63,23 @@ pub struct Function {
     pub body: Items<Stmt>,
 }
 
+/// A parameter of a function.
 #[derive(Debug, Drop)]
 pub struct Param {
     pub name: Name,
     pub ty: Ty,
 }
 
+/// A statement.
 #[cycle(stmt)]
 #[derive(Debug, Drop)]
 pub struct Stmt {
+    /// The byte, from 0, of its first token.
     pub at: u32,
     pub form: Form,
 }
 
+/// What a statement does.
 #[cycle(stmt)]
 #[derive(Debug, Drop)]
 pub enum Form {
@@ -111,6 +120,7 @@ pub enum Form {
     Par(Items<RoutineBlock>),
 }
 
+/// A test of an `if`, and the block behind it.
 #[cycle(stmt)]
 #[derive(Debug, Drop)]
 pub struct Arm {
@@ -118,15 +128,18 @@ pub struct Arm {
     pub body: Items<Stmt>,
 }
 
+/// An item of a `print`.
 #[derive(Debug, Drop)]
 pub enum Item {
     Text(Name),
     Value(Expr),
 }
 
+/// A routine block of a step: how many routines it has, the names of its two parameters, and its body.
 #[cycle(stmt)]
 #[derive(Debug, Drop)]
 pub struct RoutineBlock {
+    /// The byte, from 0, of its first token.
     pub at: u32,
     pub width: Expr,
     pub width_name: Name,
@@ -142,6 +155,7 @@ pub struct Place {
     pub index: Option<Boxed<Expr>>,
 }
 
+/// A call of a function.
 #[cycle(expr)]
 #[derive(Debug, Drop)]
 pub struct Call {
@@ -149,13 +163,16 @@ pub struct Call {
     pub args: Items<Expr>,
 }
 
+/// An expression.
 #[cycle(expr)]
 #[derive(Debug, Drop)]
 pub struct Expr {
+    /// The byte, from 0, of its first token.
     pub at: u32,
     pub node: Node,
 }
 
+/// What an expression is.
 #[cycle(expr)]
 #[derive(Debug, Drop)]
 pub enum Node {
@@ -168,12 +185,14 @@ pub enum Node {
     Paren(Boxed<Expr>),
 }
 
+/// An operator before its operand.
 #[derive(Clone, Copy, PartialEq, Eq, Debug)]
 pub enum UnaryOp {
     Neg,
     Not,
 }
 
+/// An operator between two operands.
 #[derive(Clone, Copy, PartialEq, Eq, Debug)]
 pub enum BinaryOp {
     Add,

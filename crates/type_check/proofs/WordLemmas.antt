@@ -1,14 +1,13 @@
 -- What the limits leave of the words of a program without faults.
-use Rattle.std.proofs.Common.{◌≡◌, ℕ, zero, suc, ℤ, pos, negsuc, ◌+◌, ◌≤◌, Bool, true, false, nat_le, nat_eq, if◌then◌else◌, List, [], ◌∷◌, ◌++◌, map, Option, Some, None, refl, sym, ap, ◌∙◌, arith}
+use Rattle.std.proofs.Common.{◌≡◌, ℕ, zero, suc, ℤ, pos, negsuc, ◌+◌, ◌≤◌, Bool, true, false, nat_le, nat_eq, if◌then◌else◌, List, [], ◌∷◌, ◌++◌, map, Option, Some, None, refl, ap, arith}
 use Rattle.std.proofs.lemmas.Bool.{leb-true, le-leb}
 use Rattle.csl_tree.specs.declared.program.Program.{Program}
 use Rattle.csl_tree.specs.declared.program.ArraySize.{ArraySize}
 use Rattle.csl_tree.specs.declared.program.Shared.{Shared}
-use Rattle.type_check.specs.declared.fault.Fault.{Fault}
 use Rattle.type_check.specs.declared.fault.CheckKind.TheVariants.{Limit}
 use Rattle.type_check.specs.Listed.{fault, beyond}
 use Rattle.type_check.specs.Names.{Names, taken, declare}
-use Rattle.type_check.specs.Faults.{IsAccepted, faults_of, most_words, most_functions, good_size, words_of, natural, size_faults, value_faults, stands_for, shared_faults, word_faults, with_shared, all_function_faults, global_names, main_faults}
+use Rattle.type_check.specs.Faults.{IsAccepted, most_words, most_functions, good_size, words_of, natural, size_faults, value_faults, stands_for, shared_faults, word_faults, with_shared, all_function_faults, global_names, main_faults}
 use Rattle.type_check.specs.Words.{IsGoodSize, IsSized, AreSized, words_taken, total_words}
 use Rattle.type_check.proofs.CleanLemmas.{none_in_first, none_in_second, none_if, accepted_none}
 

@@ -23,12 +23,15 @@ use Rattle.type_check.specs.Names.{Names, taken, declare}
 use Rattle.type_check.specs.Bodies.{locals_in, ends}
 use Rattle.type_check.specs.Statements.{faults, body_of, too_many_locals}
 
+-- the most shared words of a program
 abbrev pub most_words : ℕ
 most_words = 262144
 
+-- the most functions of a program
 abbrev pub most_functions : ℕ
 most_functions = 256
 
+-- the most parameters of a function
 abbrev pub most_params : ℕ
 most_params = 8
 
@@ -49,6 +52,7 @@ abbrev pub size_faults : Option ArraySize → List Fault
 size_faults None = []
 size_faults (Some size) = fault_if (nat_eq (good_size size.number) 0) Limit size.at
 
+-- what the name of a word stands for
 abbrev pub shared_kind : WordKind → Declaration
 shared_kind Ordinary = declared.Word
 shared_kind Tally = declared.Tally
@@ -58,6 +62,7 @@ abbrev pub stands_for : Option ArraySize → WordKind → Declaration
 stands_for (Some size) kind = declared.Array
 stands_for None kind = shared_kind kind
 
+-- a size, and 0 for one that is negative
 abbrev pub natural : ℤ → ℕ
 natural (pos n) = n
 natural (negsuc n) = 0
@@ -67,6 +72,7 @@ abbrev pub value_faults : Option ArraySize → List ℕ → List Fault
 value_faults None positions = []
 value_faults (Some size) positions = beyond (natural size.number) positions
 
+-- the faults of shared declarations: each one's name, size and values, where the names before it are visible
 abbrev pub shared_faults : Names → List Shared → List Fault
 shared_faults names [] = []
 shared_faults names (s ∷ rest) =
@@ -90,10 +96,12 @@ word_faults before (s ∷ rest) =
 
 -- ---- functions
 
+-- a parameter's name is visible already
 abbrev pub param_faults : Names → List Param → List Fault
 param_faults names [] = []
 param_faults names (q ∷ rest) = taken names q.name ++ param_faults (declare names q.name (declared.Local q.ty)) rest
 
+-- the names that the parameters make visible
 abbrev pub with_params : Names → List Param → Names
 with_params names [] = names
 with_params names (q ∷ rest) = with_params (declare names q.name (declared.Local q.ty)) rest
@@ -114,6 +122,7 @@ with_own globals f = declare globals f.name (as_declared f false)
 abbrev pub touches_tally : Names → Function → Bool
 touches_tally names f = list_any (λ x. is_tally_used x.kind) (body_faults names body.Routine (with_params names f.params) f.body)
 
+-- whether a function has a result
 abbrev pub gives_value : Gives → Bool
 gives_value gives.Nothing = false
 gives_value gives.Int = true
@@ -128,6 +137,7 @@ inside_faults names f =
     ++ too_many_locals (map (λ q. q.name) f.params ++ locals_in (form.Block f.body))
     ++ fault_if (gives_value f.gives && not (ends (form.Block f.body))) NoReturn f.name.at
 
+-- the faults of a function: its name, and what is inside it
 abbrev pub function_faults : Names → Function → List Fault
 function_faults globals f = taken globals f.name ++ inside_faults (with_own globals f) f
 
@@ -135,10 +145,12 @@ function_faults globals f = taken globals f.name ++ inside_faults (with_own glob
 abbrev pub with_function : Names → Function → Names
 with_function globals f = declare globals f.name (as_declared f (touches_tally (with_own globals f) f))
 
+-- the faults of functions, each where those before it are visible
 abbrev pub all_function_faults : Names → List Function → List Fault
 all_function_faults globals [] = []
 all_function_faults globals (f ∷ rest) = function_faults globals f ++ all_function_faults (with_function globals f) rest
 
+-- the names that the functions make visible
 abbrev pub with_functions : Names → List Function → Names
 with_functions globals [] = globals
 with_functions globals (f ∷ rest) = with_functions (with_function globals f) rest
@@ -149,6 +161,7 @@ with_functions globals (f ∷ rest) = with_functions (with_function globals f) r
 abbrev pub global_names : Program → Names
 global_names p = with_functions (with_shared [] p.shared) p.functions
 
+-- the faults of main
 abbrev pub main_faults : Names → List Stmt → List Fault
 main_faults globals statements = body_faults globals body.Main globals statements ++ too_many_locals (locals_in (form.Block statements))
 
@@ -169,5 +182,6 @@ fault_list p = in_position (faults_of p)
 abbrev pub first_fault : Program → Option Fault
 first_fault p = first (fault_list p)
 
+-- an accepted program has no faults
 abbrev pub IsAccepted : Program → Type 0
 IsAccepted p = fault_list p ≡ []

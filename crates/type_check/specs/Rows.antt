@@ -1,5 +1,5 @@
 -- Worked examples: small programs as trees, with the place of each part, and all their faults.
-use Rattle.std.specs.Prelude.{◌≡◌, ℕ, zero, suc, Bool, true, false, pos, List, [], ◌∷◌, ◌++◌, Option, Some, None, replicate, codes}
+use Rattle.std.specs.Prelude.{◌≡◌, ℕ, zero, suc, Bool, true, false, pos, List, [], ◌∷◌, ◌++◌, Some, None, replicate, codes}
 use Rattle.cal_base.specs.declared.step.WordKind.TheVariants.{Ordinary, Tally}
 use Rattle.csl_tree.specs.declared.name.Name.{Name}
 use Rattle.csl_tree.specs.declared.program.Program.{Program}

@@ -1,6 +1,5 @@
 -- How many words the shared declarations take, and what an accepted program keeps of the limits.
 use Rattle.std.specs.Prelude.{ℕ, ℤ, pos, negsuc, ◌+◌, ◌≤◌, List, [], ◌∷◌, Option, Some, None}
-use Rattle.csl_tree.specs.declared.program.Program.{Program}
 use Rattle.csl_tree.specs.declared.program.ArraySize.{ArraySize}
 use Rattle.csl_tree.specs.declared.program.Shared.{Shared}
 use Rattle.type_check.specs.Faults.{most_words, natural}

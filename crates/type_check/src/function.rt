@@ -20,6 +20,9 @@ use csl_tree::program::{Function, Gives, Param};
 use sqlite_items::Items;
 use std::alloc::Global;
 
+/// The most parameters of a function.
+const MOST_PARAMS: usize = 8;
+
 /// What a function's name stands for.
 fn signature(alloc: Global, f: &Function, touches: bool) -> Result<Declaration, NoMemory>
     ensures { IfOk result (λ d. d ≡ faults.as_declared f.now touches) }
@@ -57,7 +60,7 @@ fn check_params(
 fn note_many_params(found: &mut Found, params: &[Param])
     ensures { found.new ≡ noted found.old (beyond faults.most_params (map (λ q. q.name.at) params.now)) }
 {
-    match params.get(8) {
+    match params.get(MOST_PARAMS) {
         Some(q) => found.note(CheckKind::Limit, q.name.at),
         None => {}
     }

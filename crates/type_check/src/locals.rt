@@ -25,11 +25,7 @@ fn push_form(at: &mut Items<u32>, form: &Form) -> Result<(), NoMemory>
     ensures { OnOk result (at.new ≡ at.old ++ positions (locals_in form.now)) }
 {
     match form {
-        Form::Declare {
-            ty: _,
-            name,
-            value: _,
-        } => {
+        Form::Declare { name, .. } => {
             at.push(name.at)?;
             Ok(())
         }
@@ -40,13 +36,8 @@ fn push_form(at: &mut Items<u32>, form: &Form) -> Result<(), NoMemory>
                 Some(body) => push_locals(at, body.as_slice()),
             }
         }
-        Form::While { test: _, body } => push_locals(at, body.as_slice()),
-        Form::For {
-            first,
-            test: _,
-            next: _,
-            body,
-        } => {
+        Form::While { body, .. } => push_locals(at, body.as_slice()),
+        Form::For { first, body, .. } => {
             push_form(at, &first.get().form)?;
             push_locals(at, body.as_slice())
         }

@@ -21,6 +21,9 @@ use csl_tree::program::{Function, Program, Stmt};
 use sqlite_items::Items;
 use std::alloc::Global;
 
+/// The most functions of a program.
+const MOST_FUNCTIONS: usize = 256;
+
 /// Notes the faults of functions, and declares them.
 fn check_functions(
     alloc: Global,
@@ -41,7 +44,7 @@ fn check_functions(
 fn note_many_functions(found: &mut Found, functions: &[Function])
     ensures { found.new ≡ noted found.old (beyond faults.most_functions (map (λ f. f.name.at) functions.now)) }
 {
-    match functions.get(256) {
+    match functions.get(MOST_FUNCTIONS) {
         Some(f) => found.note(CheckKind::Limit, f.name.at),
         None => {}
     }
@@ -82,7 +85,8 @@ fn check_program(alloc: Global, p: &Program) -> Result<Found, NoMemory>
     Ok(found)
 }
 
-/// The program, if it has no faults, and else its first fault by position and then by number.
+/// The program, if it has no faults. Else `Refused` names its first fault: the one at the lowest place, and of two at one place
+/// the one that stands higher in the table of faults of `docs/LANGUAGE.md`. `NoMemory` says that there was no memory for the work.
 pub fn check(alloc: Global, p: Program) -> Result<Checked, CheckError>
     requires { IsSpelledWithin text_limit p }
     ensures accepted { IfOk result (λ c. (c ≡ p) × faults.IsAccepted p) }

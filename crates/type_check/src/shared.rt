@@ -12,12 +12,15 @@ use crate::table::Table;
 use cal_base::{NoMemory, WordKind};
 use csl_tree::program::{ArraySize, Shared, Valued};
 
-/// A size, and 0 for one that is too large.
+/// The most shared words of a program.
+const MOST_WORDS: u32 = 262_144;
+
+/// A size, and 0 for one that is negative or too large.
 fn good_size(number: i64) -> u32
     ensures value { result ≡ faults.good_size number }
-    ensures small { result ≤ 262144 }
+    ensures small { result ≤ faults.most_words }
 {
-    if 0 <= number && number <= 262144 {
+    if 0 <= number && number <= i64::from(MOST_WORDS) {
         number as u32
     } else {
         0
@@ -27,7 +30,7 @@ fn good_size(number: i64) -> u32
 /// How many words a declaration takes.
 fn words_of(size: &Option<ArraySize>) -> u32
     ensures value { result ≡ faults.words_of size.now }
-    ensures small { result ≤ 262144 }
+    ensures small { result ≤ faults.most_words }
 {
     match size {
         None => 1,
@@ -70,8 +73,7 @@ fn stands_for(size: &Option<ArraySize>, kind: WordKind) -> Declaration
     ensures { result ≡ faults.stands_for size.now kind }
 {
     match (size, kind) {
-        (Some(_), WordKind::Ordinary) => Declaration::Array,
-        (Some(_), WordKind::Tally) => Declaration::Array,
+        (Some(_), _) => Declaration::Array,
         (None, WordKind::Ordinary) => Declaration::Word,
         (None, WordKind::Tally) => Declaration::Tally,
     }
@@ -103,7 +105,7 @@ pub fn check_words(found: &mut Found, shared: &[Shared])
     let mut total: u32 = 0;
     for s in shared {
         total += words_of(&s.size);
-        if total > 262144 {
+        if total > MOST_WORDS {
             found.note(CheckKind::Limit, s.name.at);
             return;
         }

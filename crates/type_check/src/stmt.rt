@@ -8,7 +8,7 @@ ghost use Rattle.type_check.specs.Statements as statements;
 ghost use Rattle.type_check.specs.Bodies.{after};
 ghost use Rattle.type_check.specs.Listed.{beyond};
 ghost use Rattle.type_check.specs.Noted.{noted};
-ghost use Rattle.type_check.specs.Lists.{statements_of, arms_of, after_all, block_at, blocks_of, routine_of};
+ghost use Rattle.type_check.specs.Lists.{statements_of, arms_of, after_all, block_at, blocks_of, step_of, routine_of};
 
 use crate::body::{Body, Here};
 use crate::expr::{
@@ -25,6 +25,15 @@ use csl_tree::name::Name;
 use csl_tree::program::{Arm, Expr, Form, Gives, Item, Place, RoutineBlock, Stmt, Ty};
 use sqlite_items::Items;
 use std::alloc::Global;
+
+/// The most items of a `print`.
+const MOST_ITEMS: usize = 64;
+
+/// The most locals of a body, parameters counted.
+const MOST_LOCALS: usize = 64;
+
+/// The most routine blocks of a step.
+const MOST_BLOCKS: usize = 64;
 
 fn is_main(body: Body) -> bool
     ensures { result ≡ statements.is_main body }
@@ -149,7 +158,7 @@ fn item_at(item: &Item) -> u32
 fn note_many_items(found: &mut Found, items: &[Item])
     ensures { found.new ≡ noted found.old (beyond statements.most_items (map statements.item_at items.now)) }
 {
-    match items.get(64) {
+    match items.get(MOST_ITEMS) {
         Some(item) => found.note(CheckKind::Limit, item_at(item)),
         None => {}
     }
@@ -159,7 +168,7 @@ fn note_many_items(found: &mut Found, items: &[Item])
 pub(crate) fn note_many_locals(found: &mut Found, at: &[u32])
     ensures { found.new ≡ noted found.old (beyond statements.most_locals at.now) }
 {
-    match at.get(64) {
+    match at.get(MOST_LOCALS) {
         Some(at) => found.note(CheckKind::Limit, *at),
         None => {}
     }
@@ -169,7 +178,7 @@ pub(crate) fn note_many_locals(found: &mut Found, at: &[u32])
 fn note_many_blocks(found: &mut Found, blocks: &[RoutineBlock])
     ensures { found.new ≡ noted found.old (beyond statements.most_blocks (map block_at blocks.now)) }
 {
-    match blocks.get(64) {
+    match blocks.get(MOST_BLOCKS) {
         Some(block) => found.note(CheckKind::Limit, block.at),
         None => {}
     }
@@ -257,15 +266,7 @@ fn check_stmt(
             note_many_items(found, items.as_slice());
             Ok(())
         }
-        Form::Par(blocks) => {
-            if is_main(body) {
-                check_blocks(alloc, found, body, globals, locals, blocks.as_slice())?;
-                note_many_blocks(found, blocks.as_slice());
-                return Ok(());
-            }
-            found.note(CheckKind::OnlyInMain, s.at);
-            Ok(())
-        }
+        Form::Par(blocks) => check_step(alloc, found, body, globals, locals, s.at, blocks),
     }
 }
 
@@ -343,6 +344,28 @@ fn check_arms(
         check_value(found, here.body, globals, locals, Typed::Bool, &arm.test);
         check_block(alloc, found, here, globals, locals, arm.body.as_slice())?;
     }
+    Ok(())
+}
+
+/// Notes the faults of a step. One that does not stand in main has no other fault than that.
+#[cycle(stmt)]
+fn check_step(
+    alloc: Global,
+    found: &mut Found,
+    body: Body,
+    globals: &Table,
+    locals: &Table,
+    at: u32,
+    blocks: &Items<RoutineBlock>,
+) -> Result<(), NoMemory>
+    ensures { OnOk result (found.new ≡ noted found.old (step_of globals.now body (globals.now ++ locals.now) at blocks.now)) }
+{
+    if is_main(body) {
+        check_blocks(alloc, found, body, globals, locals, blocks.as_slice())?;
+        note_many_blocks(found, blocks.as_slice());
+        return Ok(());
+    }
+    found.note(CheckKind::OnlyInMain, at);
     Ok(())
 }
 
