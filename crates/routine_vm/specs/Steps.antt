@@ -1,4 +1,5 @@
 -- What a step of the machine does, and where it stops.
+-- For the proof of the body: no public clause cites this.
 use Rattle.std.specs.Prelude.{◌≡◌, ℕ, zero, suc, ◌≤◌, ◌==◌, Bool, true, false, [], ◌∷◌, ◌++◌, ℤ, Option, Some, None, IsSome, Result, Ok, Err, List, length, slice_get, reverse, take, drop}
 use Rattle.std.specs.List.{AllByRecursion}
 use Rattle.cal_base.specs.declared.ends.Cause.{Cause}
