@@ -6,6 +6,7 @@ ghost use Rattle.bytecode.specs.declared.fault.DecodeError.TheVariants.{NoMemory
 use cal_base::NoMemory;
 use std::alloc::AllocError;
 
+/// Why bytes are not decoded.
 #[derive(Clone, Copy, Debug, PartialEq, Eq)]
 pub enum DecodeError {
     /// The bytes are no module's.

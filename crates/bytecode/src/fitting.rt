@@ -53,7 +53,9 @@ impl Fitting for NumberForm {
     ghost Fits = { FitsNum };
 
     fn fits(item: &u32) -> bool {
-        u64::from(*item) < 1 << 32
+        // Each has a spelling. What is read is known to be in its type's range.
+        let _value = *item;
+        true
     }
 }
 
@@ -82,6 +84,7 @@ impl Fitting for InstrForm {
     fn fits(item: &Instr) -> bool {
         match item {
             Instr::Int(z) => {
+                // Read, so that it is known to be in its type's range.
                 let _value = *z;
                 true
             }

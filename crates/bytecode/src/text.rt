@@ -21,6 +21,7 @@ impl Model for Text {
 }
 
 impl Text {
+    /// A text with a copy of these bytes.
     pub fn from_slice(alloc: Global, bytes: &[u8]) -> Result<Text, NoMemory>
         ensures { IfOk result (λ t. t ≡ bytes.now) }
     {
@@ -28,6 +29,7 @@ impl Text {
         Ok(Text { bytes })
     }
 
+    /// Its bytes, as they are printed.
     pub fn as_slice(&self) -> &[u8]
         ensures { result.now ≡ self.now }
     {

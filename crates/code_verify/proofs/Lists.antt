@@ -1,5 +1,5 @@
 -- Entries of lists, as loops go over them.
-use Rattle.std.proofs.Common.{◌≡◌, ℕ, zero, suc, ◌+◌, ◌<◌, ◌≤◌, Bool, true, false, not, List, ◌∷◌, Option, Some, None, ◌⊎◌, inl, inr, refl, sym, ap, subst, ◌∙◌, arith}
+use Rattle.std.proofs.Common.{◌≡◌, ℕ, zero, suc, ◌+◌, ◌<◌, ◌≤◌, Bool, true, false, not, List, [], ◌∷◌, length, get_or, Option, Some, None, ◌⊎◌, inl, inr, refl, sym, ap, subst, ◌∙◌, arith}
 use Rattle.std.specs.Prelude.{slice_get, IsTrue, ◌↔◌}
 use Rattle.std.specs.List.{Contains}
 use Rattle.std.proofs.lemmas.Bool.{cases_lt}
@@ -11,6 +11,12 @@ use Rattle.code_verify.proofs.Walking.{not_past}
 
 some_same : {A : Type 0} (x y : A) (o : Option A) → o ≡ Some x → o ≡ Some y → x ≡ y
 some_same x y o p q = cc
+
+-- an entry within a list is there
+pub entry_there : {A : Type 0} (xs : List A) (n : ℕ) (x : A) → n < length xs → x ≡ get_or xs n x → slice_get xs n ≡ Some x
+entry_there [] n x lt e = absurd (omega arith)
+entry_there (a ∷ xs) zero x lt e = ap (λ y. Some y) (sym e)
+entry_there (a ∷ xs) (suc n) x lt e = entry_there xs n x (omega arith) e
 
 module _ {A : Type 0} (P : ℕ → A → Type 0) (xs : List A) where
   pub each_next : (n : ℕ) (x : A) → EachBelow P xs n → slice_get xs n ≡ Some x → P n x → EachBelow P xs (n + 1)
@@ -30,6 +36,9 @@ module _ {A : Type 0} (P : ℕ → A → Type 0) (xs : List A) where
         | inl lt ↦ lt
         | inr le ↦ let inside = slice_get_within xs k x here in absurd (not_past xs n (omega (arith, inside, le)) none)
       ]
+
+  pub each_whole : (n : ℕ) → EachBelow P xs n → length xs ≤ n → Each P xs
+  each_whole n before le k x here = let inside = slice_get_within xs k x here in before k x (omega (arith, inside, le)) here
 
 -- ---- tally words in a range
 

@@ -1,4 +1,5 @@
 -- What the verifier tests of a module, code by code.
+-- For the proof of the body: no public clause cites this.
 use Rattle.std.specs.Prelude.{◌≡◌, ℕ, ◌+◌, ◌<◌, ◌≤◌, ◌↔◌, true, Bool, List, ◌∷◌, length, Some, slice_get}
 use Rattle.std.specs.List.{AllByRecursion, Contains}
 use Rattle.bytecode.specs.declared.module.Ty.{Ty}

@@ -19,9 +19,8 @@ fn is_plain_array(m: &Module, instr: &Instr) -> bool
     ensures { IsTrue result ↔ IsPlainArray m.now instr.now }
 {
     match instr {
-        Instr::Item(first, count) => holds_no_tally(m, *first, *count),
-        Instr::SetItem(first, count) => holds_no_tally(m, *first, *count),
-        Instr::AddItem(first, count) => holds_no_tally(m, *first, *count),
+        Instr::Item(first, count) | Instr::SetItem(first, count) | Instr::AddItem(first, count) =>
+            holds_no_tally(m, *first, *count),
         _ => true,
     }
 }
@@ -89,13 +88,10 @@ fn keeps_rules(m: &Module, owner: Owner, c: &Code, place: usize, instr: &Instr) 
 pub fn instructions_fit(m: &Module, owner: Owner, c: &Code) -> bool
     ensures { IsTrue result ↔ Each (KeepsRules m.now owner c.now) c.now.instrs }
 {
-    let count = c.instrs.len();
-    let mut place = 0;
-    while let Some(instr) = c.instrs.get(place) {
+    for (place, instr) in c.instrs.as_slice().iter().enumerate() {
         if !keeps_rules(m, owner, c, place, instr) {
             return false;
         }
-        place += 1;
     }
     true
 }

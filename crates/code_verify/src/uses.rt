@@ -29,13 +29,10 @@ fn uses_by(m: &Module, uses: &Items<bool>, instr: &Instr) -> bool
 pub fn some_uses(m: &Module, uses: &Items<bool>, c: &Code) -> bool
     ensures { IsTrue result ↔ SomeUses m.now uses.now c.now }
 {
-    let count = c.instrs.len();
-    let mut place = 0;
-    while let Some(instr) = c.instrs.get(place) {
+    for instr in c.instrs.as_slice() {
         if uses_by(m, uses, instr) {
             return true;
         }
-        place += 1;
     }
     false
 }

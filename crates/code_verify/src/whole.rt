@@ -84,13 +84,10 @@ fn functions_fit(alloc: Global, m: &Module) -> Result<bool, NoMemory>
 fn blocks_fit(alloc: Global, m: &Module, uses: &Items<bool>) -> Result<bool, NoMemory>
     ensures { IfOk result (λ yes. IsTrue yes ↔ Each (λ b c. IsQuietBlock m.now uses.now c) m.now.blocks) }
 {
-    let count = m.blocks.len();
-    let mut number = 0;
-    while let Some(block) = m.blocks.get(number) {
+    for block in m.blocks.as_slice() {
         if !is_quiet_block(alloc, m, uses, block)? {
             return Ok(false);
         }
-        number += 1;
     }
     Ok(true)
 }

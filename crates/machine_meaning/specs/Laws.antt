@@ -3,7 +3,7 @@ use Rattle.bytecode.specs.declared.module.Module.{Module}
 use Rattle.code_verify.specs.Rules.{IsVerified}
 use Rattle.machine_meaning.specs.Runs.{NeverStuck, EndsInTime, RoutinesEnd}
 use Rattle.machine_meaning.specs.Meaning.{MainGoesOn, MainComes}
-use Rattle.machine_meaning.specs.Reaching.{CallComposes, CallTraps}
+use Rattle.machine_meaning.specs.Reaching.{CallComposes, CallTraps, MainFollows, MainTraps, RoutineEnds, RoutineTraps}
 
 -- each state that a verified module's machine reaches has a next step
 abbrev pub VerifiedIsNeverStuck : Type 0
@@ -32,3 +32,19 @@ MainOfVerifiedGoesOn = (m : Module) → IsVerified m → MainGoesOn m
 -- a verified module's main goes on where its runs come to
 abbrev pub MainOfVerifiedComes : Type 0
 MainOfVerifiedComes = (m : Module) → IsVerified m → MainComes m
+
+-- a verified module's main goes on alike from a state and from what that comes to
+abbrev pub MainOfVerifiedFollows : Type 0
+MainOfVerifiedFollows = (m : Module) → IsVerified m → MainFollows m
+
+-- a verified module's main ends where it traps
+abbrev pub TrapsOfVerifiedMain : Type 0
+TrapsOfVerifiedMain = (m : Module) → IsVerified m → MainTraps m
+
+-- a verified module's routines end as their runs do
+abbrev pub EndsOfVerifiedRoutines : Type 0
+EndsOfVerifiedRoutines = (m : Module) → IsVerified m → RoutineEnds m
+
+-- a verified module's routines trap as their runs do
+abbrev pub TrapsOfVerifiedRoutines : Type 0
+TrapsOfVerifiedRoutines = (m : Module) → IsVerified m → RoutineTraps m

@@ -1,19 +1,24 @@
 -- Runs of small steps, composed.
-use Rattle.std.specs.Prelude.{◌≡◌, ℕ, suc, ◌≤◌, ◌<◌, List, ◌∷◌, ◌++◌, length, Some, slice_get, reverse}
+use Rattle.std.specs.Prelude.{◌≡◌, ℕ, suc, ◌<◌, List, ◌∷◌, ◌++◌, length, Some, slice_get, reverse}
 use Rattle.cal_base.specs.declared.ends.Cause.{Cause}
+use Rattle.cal_base.specs.declared.ends.RoutineEnd.TheVariants.{Ended, Fault}
+use Rattle.cal_base.specs.declared.ends.RunEnd.TheVariants.{MainFault}
+use Rattle.cal_base.specs.Main as outline
+use Rattle.cal_base.specs.Memory.{Memory}
 use Rattle.cal_base.specs.declared.value.Val.{Val}
 use Rattle.cal_base.specs.declared.value.Store.{Store}
 use Rattle.bytecode.specs.declared.instr.Instr.TheVariants as i
 use Rattle.bytecode.specs.declared.module.Code.{Code}
 use Rattle.bytecode.specs.declared.module.Module.{Module}
 use Rattle.code_verify.specs.Kinds.{parameters}
-use Rattle.machine_meaning.specs.Machine.{Call, State, Traps, split, begun, on_with, most_callers}
-use Rattle.machine_meaning.specs.Runs.{Comes, runs}
+use Rattle.machine_meaning.specs.Machine.{Call, State, Ends, Traps, next, split, begun, on_with, most_callers}
+use Rattle.machine_meaning.specs.Runs.{Comes, Goes, runs, Reached, main_beginning, routine_beginning}
+use Rattle.machine_meaning.specs.Meaning.{main_of, outcome_at, routine_outcome}
 
 module _ (m : Module) where
-  -- from a state the machine comes to another: it has the same runs from there on
+  -- from a state the machine comes to another by steps, each of which leads to the next state and nothing else
   abbrev pub ComesTo : State → State → Type 0
-  ComesTo s s' = (k : ℕ) → (j : ℕ) × (k ≤ j) × (runs m j s ≡ runs m k s')
+  ComesTo s s' = (j : ℕ) × (runs m j s ≡ Goes s')
 
   -- from a state the machine traps
   abbrev pub TrapsAt : State → Cause → Store → ℕ → Type 0
@@ -55,3 +60,29 @@ module _ (m : Module) where
       (s : State) (n : ℕ) (f : Code) (parts : List Val × List Val) (left : ℕ) (cause : Cause) (store' : Store) (fuel' : ℕ)
       → CanCall s n f parts left → BodyTraps f (reverse parts.0) (length s.callers) s.store left cause store' fuel'
       → TrapsAt s cause store' fuel'
+
+  -- where a state that main reaches comes to another, main goes on from the one as from the other, which it reaches too
+  abbrev pub MainFollows : Type 0
+  MainFollows =
+      (memory : Memory) (fuel whole steps : ℕ) (s s' : State) → Reached m (main_beginning m memory fuel) s → ComesTo s s'
+      → (main_of m whole steps s ≡ main_of m whole steps s') × Reached m (main_beginning m memory fuel) s'
+
+  -- where a state that main reaches traps, main ends with this fault, behind the parallel steps before it
+  abbrev pub MainTraps : Type 0
+  MainTraps =
+      (memory : Memory) (fuel whole steps : ℕ) (s : State) (cause : Cause) (store : Store) (left : ℕ) → Reached m (main_beginning m memory fuel) s → TrapsAt s cause store left
+      → main_of m whole steps s ≡ outline.Ends (MainFault steps cause)
+
+  -- a routine whose beginning comes to its last step has just that outcome, with the fuel that is left there
+  abbrev pub RoutineEnds : Type 0
+  RoutineEnds =
+      (b : ℕ) (block : Code) (width id : ℕ) (opening : Memory) (fuel : ℕ) (s : State) (store : Store) (left : ℕ) → slice_get m.blocks b ≡ Some block
+      → ComesTo (routine_beginning block width id opening fuel) s → next m s ≡ Some (Ends store left)
+      → routine_outcome m block width id opening fuel ≡ outcome_at Ended store left
+
+  -- a routine whose beginning traps has just that outcome, with the fuel that is left there
+  abbrev pub RoutineTraps : Type 0
+  RoutineTraps =
+      (b : ℕ) (block : Code) (width id : ℕ) (opening : Memory) (fuel : ℕ) (cause : Cause) (store : Store) (left : ℕ) → slice_get m.blocks b ≡ Some block
+      → TrapsAt (routine_beginning block width id opening fuel) cause store left
+      → routine_outcome m block width id opening fuel ≡ outcome_at (Fault cause) store left

@@ -2,7 +2,7 @@
 #![tactic(auto)]
 
 ghost use Rattle.machine_meaning.specs.Rows.{WorkedRows};
-ghost use Rattle.machine_meaning.specs.Laws.{VerifiedIsNeverStuck, VerifiedEndsInTime, RoutinesOfVerifiedEnd, CallsCompose, TrapsOfCalls, MainOfVerifiedGoesOn, MainOfVerifiedComes};
+ghost use Rattle.machine_meaning.specs.Laws.{VerifiedIsNeverStuck, VerifiedEndsInTime, RoutinesOfVerifiedEnd, CallsCompose, TrapsOfCalls, MainOfVerifiedGoesOn, MainOfVerifiedComes, MainOfVerifiedFollows, TrapsOfVerifiedMain, EndsOfVerifiedRoutines, TrapsOfVerifiedRoutines};
 
 /// The machine of a verified module never reaches a state without a next step: no test on operands, kinds, places or addresses fails.
 pub fn never_stuck()
@@ -37,6 +37,26 @@ pub fn main_goes_on()
 /// Main of a verified module goes on where its run comes to: to a line that it shows, to a step that it opens, or to its end.
 pub fn main_comes()
     ensures { MainOfVerifiedComes }
+{}
+
+/// Main of a verified module goes on alike from a state that it reaches and from one to which that comes, and it reaches that one too.
+pub fn main_follows()
+    ensures { MainOfVerifiedFollows }
+{}
+
+/// Main of a verified module ends with the fault where a state that it reaches traps.
+pub fn main_traps()
+    ensures { TrapsOfVerifiedMain }
+{}
+
+/// A routine of a verified module whose beginning comes to its last step has just that outcome.
+pub fn routine_ends()
+    ensures { EndsOfVerifiedRoutines }
+{}
+
+/// A routine of a verified module whose beginning traps has just that outcome.
+pub fn routine_traps()
+    ensures { TrapsOfVerifiedRoutines }
 {}
 
 /// Small modules mean what they must.

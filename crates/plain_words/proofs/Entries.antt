@@ -1,11 +1,11 @@
 -- The entries of words as a map.
-use Rattle.std.proofs.Common.{◌≡◌, ℕ, zero, suc, ◌+◌, ◌<◌, ◌≤◌, ◌^◌, ℤ, List, [], ◌∷◌, ◌++◌, length, get_or, set, Option, Some, None, refl, sym, ap, ◌∙◌, ⊎_elim, arith}
+use Rattle.std.proofs.Common.{◌≡◌, ℕ, zero, suc, ◌+◌, ◌<◌, ◌≤◌, ◌^◌, ℤ, List, [], ◌∷◌, length, replicate, get_or, set, Option, Some, None, refl, sym, ap, ◌∙◌, ⊎_elim, arith}
 use Rattle.std.proofs.lemmas.Bool.{cases_eq}
 use Rattle.std.proofs.lemmas.List.{get_or-set_same, get_or-set_other}
 use Rattle.std.specs.Cmp.{nat_cmp_total}
-use Rattle.std.specs.FinMap.{get, insert, get-empty, same_map, nat_cmp-IsAntisymmetric}
+use Rattle.std.specs.FinMap.{get, insert, empty, get-empty, same_map, nat_cmp-IsAntisymmetric}
 use Rattle.std.specs.Ordering.{nat_cmp}
-use Rattle.cal_base.specs.Updates.{Written, IsBelow}
+use Rattle.cal_base.specs.Updates.{IsBelow}
 use Rattle.cal_base.proofs.Updates.{get_put, get_put_other}
 use Rattle.plain_words.specs.Own.{own_from}
 
@@ -36,11 +36,10 @@ own_put own a v lt =
     (λ (apart : q ≡ a → ⊥). get_or-set_other own a q (Some v) None apart ∙ sym (get_own own q) ∙ sym (get_put_other (own_from 0 own) a v q apart))
     (cases_eq q a))
 
--- a word more without an entry
-pub own_more : (own : List (Option ℤ)) (a : ℕ) → own_from a (own ++ None ∷ []) ≡ own_from a own
-own_more [] a = refl
-own_more (None ∷ own) a = own_more own (a + 1)
-own_more (Some v ∷ own) a = ap (λ (w : Written). insert w a v) (own_more own (a + 1))
+-- words without entries
+pub own_none : (n a : ℕ) → own_from a (replicate n None) ≡ empty
+own_none zero a = refl
+own_none (suc n) a = own_none n (a + 1)
 
 -- an entry that is there is the same whatever stands for one that is not
 pub same_default : (own : List (Option ℤ)) (i : ℕ) (d e : Option ℤ) → i < length own → get_or own i d ≡ get_or own i e

@@ -10,7 +10,8 @@ use cal_base::{Image, NoMemory, Overflow, UpdateWords, WordKind, Words};
 use std::alloc::Global;
 use std::marker::Model;
 
-/// The memory on which a step opened, under what one routine wrote and added. All room is taken when they are made.
+/// The memory on which a step opened, under what one routine wrote and added. All room is taken when they are made, once for a step: its
+/// next routine takes them cleared.
 #[derive(Drop)]
 pub struct PlainWords<'a> {
     opening: &'a Image,
@@ -40,14 +41,18 @@ impl<'a> PlainWords<'a> {
         ensures opening { IfOk result (λ words. words.opening ≡ image.now.memory) }
         ensures written { IfOk result (λ words. words.written ≡ empty) }
     {
-        let mut own = Vec::new(alloc);
-        for _ in 0..image.len() {
-            own.push(None)?;
-        }
+        let own = vec![in alloc; None; image.len() as usize]?;
         Ok(PlainWords {
             opening: image,
             own,
         })
+    }
+
+    /// Forgets all that was written and added. It takes no memory.
+    pub fn clear(&mut self)
+        ensures { self.new ≡ record self.old { written = empty } }
+    {
+        self.own.fill(None);
     }
 
     /// What was written or added to a word.

@@ -31,9 +31,9 @@ use Rattle.routine_vm.specs.declared.frame.Body.TheVariants as body
 use Rattle.routine_vm.specs.declared.frame.Frame.{Frame}
 use Rattle.routine_vm.specs.declared.run.Run.{Run}
 use Rattle.routine_vm.specs.Frames.{behind}
-use Rattle.routine_vm.specs.States.{RunsAbove, Stacked, bodies_of, code_of, call_of, state_of}
+use Rattle.routine_vm.specs.States.{RunsAbove, Stacked, bodies_of, code_of, call_of, state_of, outcome_from}
 use Rattle.routine_vm.specs.Steps.{IsEvent}
-use Rattle.routine_vm.specs.Ready.{IsReady, IsAtEvent, outcome_from}
+use Rattle.routine_vm.specs.Ready.{IsReady, IsAtEvent}
 use Rattle.routine_vm.specs.Events.{piece_of}
 use Rattle.routine_vm.specs.Held.{Held, main_state, MayGoOn, event_at, IsTold, OpensBlocks}
 use Rattle.routine_vm.proofs.There.{bind_there}

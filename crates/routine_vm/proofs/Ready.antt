@@ -22,9 +22,9 @@ use Rattle.machine_meaning.proofs.Never.{next_good, function_runs}
 use Rattle.routine_vm.specs.declared.frame.Body.{Body}
 use Rattle.routine_vm.specs.declared.frame.Frame.{Frame}
 use Rattle.routine_vm.specs.declared.run.Run.{Run}
-use Rattle.routine_vm.specs.States.{HasBody, RunsAbove, Stacked, bodies_of, call_of, state_of}
+use Rattle.routine_vm.specs.States.{HasBody, RunsAbove, Stacked, bodies_of, call_of, state_of, outcome_from}
 use Rattle.routine_vm.specs.Steps.{HaveRoom}
-use Rattle.routine_vm.specs.Ready.{IsReady, outcome_from}
+use Rattle.routine_vm.specs.Ready.{IsReady}
 
 all_at : {A : Type 0} (P : A → Type 0) (xs : List A) (n : ℕ) (x : A) → AllByRecursion P xs → slice_get xs n ≡ Some x → P x
 all_at P [] n x all h = absurd cc

@@ -1,12 +1,12 @@
 -- Runs of the machine up to where they stop.
-use Rattle.std.specs.Prelude.{◌≡◌, ◌+◌, Some}
+-- For the proof of the body: no public clause cites this.
+use Rattle.std.specs.Prelude.{◌≡◌, Some}
 use Rattle.cal_base.specs.declared.value.Store.{Store}
 use Rattle.bytecode.specs.declared.instr.Instr.{Instr}
 use Rattle.bytecode.specs.declared.module.Module.{Module}
 use Rattle.code_verify.specs.Rules.{Stands}
 use Rattle.machine_meaning.specs.Machine.{State, On, Ends, Traps, next, in_routine}
-use Rattle.machine_meaning.specs.Runs as machine
-use Rattle.machine_meaning.specs.Runs.{Comes, runs, most_steps}
+use Rattle.machine_meaning.specs.Runs.{Comes}
 use Rattle.machine_meaning.specs.Fitting.{Fits}
 use Rattle.routine_vm.specs.declared.frame.Body.{Body}
 use Rattle.routine_vm.specs.declared.go.Stop.{Stop}
@@ -14,7 +14,7 @@ use Rattle.routine_vm.specs.declared.go.Stop.TheVariants as stop
 use Rattle.routine_vm.specs.declared.run.Led.{Led}
 use Rattle.routine_vm.specs.declared.run.Led.TheVariants as led
 use Rattle.routine_vm.specs.declared.run.Run.{Run}
-use Rattle.routine_vm.specs.States.{HasBody, HasWordsOf, RunsAbove, state_of}
+use Rattle.routine_vm.specs.States.{HasBody, HasWordsOf, RunsAbove, state_of, outcome_from}
 use Rattle.routine_vm.specs.Steps.{IsEvent}
 
 -- what runs, with the words on which it works, is in a state of the verified module's machine
@@ -24,10 +24,6 @@ pub record IsReady (m : Module) (r : Run) (store : Store) : Type 0 where
   pub has_bottom : HasBody m bottom
   pub above : RunsAbove m bottom r
   pub words : HasWordsOf m store
-
--- what the run from a state comes to
-abbrev pub outcome_from : Module → State → machine.Run
-outcome_from m s = runs m (most_steps m s + 1) s
 
 -- main is to show a line or to open a step
 pub record IsAtEvent (s : State) : Type 0 where

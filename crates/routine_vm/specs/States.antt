@@ -1,11 +1,13 @@
 -- What runs in the machine, seen as a state of the module's machine.
-use Rattle.std.specs.Prelude.{◌≡◌, ℕ, ◌<◌, List, [], ◌∷◌, length, map, slice_index_or}
+use Rattle.std.specs.Prelude.{◌≡◌, ℕ, ◌+◌, ◌<◌, List, [], ◌∷◌, length, map, slice_index_or}
 use Rattle.cal_base.specs.Memory.{kinds_of}
 use Rattle.cal_base.specs.declared.value.Store.{Store}
 use Rattle.cal_base.specs.Stores.{memory_in}
 use Rattle.bytecode.specs.declared.module.Code.{Code}
 use Rattle.bytecode.specs.declared.module.Module.{Module}
 use Rattle.machine_meaning.specs.Machine.{Call, State}
+use Rattle.machine_meaning.specs.Runs as machine
+use Rattle.machine_meaning.specs.Runs.{runs, most_steps}
 use Rattle.machine_meaning.specs.Meaning.{module_memory}
 use Rattle.routine_vm.specs.declared.frame.Body.{Body}
 use Rattle.routine_vm.specs.declared.frame.Body.TheVariants as body
@@ -48,3 +50,7 @@ state_of m r store = record { call = call_of m r.call; callers = map (call_of m)
 -- the store has the words of the module, with their kinds
 abbrev pub HasWordsOf : Module → Store → Type 0
 HasWordsOf m store = kinds_of (memory_in store) ≡ kinds_of (module_memory m)
+
+-- what the run from a state comes to
+abbrev pub outcome_from : Module → State → machine.Run
+outcome_from m s = runs m (most_steps m s + 1) s

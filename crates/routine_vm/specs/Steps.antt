@@ -1,5 +1,6 @@
 -- What a step of the machine does, and where it stops.
-use Rattle.std.specs.Prelude.{◌≡◌, ℕ, zero, suc, ◌≤◌, ◌==◌, Bool, true, false, [], ◌∷◌, ◌++◌, ℤ, Option, Some, None, Result, Ok, Err, List, length, slice_get, reverse, take, drop}
+-- For the proof of the body: no public clause cites this.
+use Rattle.std.specs.Prelude.{◌≡◌, ℕ, zero, suc, ◌≤◌, ◌==◌, Bool, true, false, [], ◌∷◌, ◌++◌, ℤ, Option, Some, None, IsSome, Result, Ok, Err, List, length, slice_get, reverse, take, drop}
 use Rattle.std.specs.List.{AllByRecursion}
 use Rattle.cal_base.specs.declared.ends.Cause.{Cause}
 use Rattle.cal_base.specs.declared.ends.Cause.TheVariants.{TooDeep, FuelSpent}
@@ -9,12 +10,14 @@ use Rattle.cal_base.specs.declared.value.Val.TheVariants.{Int}
 use Rattle.bytecode.specs.declared.instr.Instr.{Instr}
 use Rattle.bytecode.specs.declared.instr.Instr.TheVariants as i
 use Rattle.bytecode.specs.declared.module.Code.{Code}
+use Rattle.bytecode.specs.declared.module.Module.{Module}
 use Rattle.code_verify.specs.Rules.{HasShape}
-use Rattle.machine_meaning.specs.Machine.{State, Next, On, Ends, Traps, most_callers}
+use Rattle.machine_meaning.specs.Machine.{State, Next, On, Ends, Traps, step, most_callers}
 use Rattle.routine_vm.specs.declared.frame.Body.TheVariants.{Function}
 use Rattle.routine_vm.specs.declared.run.Run.{Run}
 use Rattle.routine_vm.specs.declared.frame.Frame.{Frame}
 use Rattle.routine_vm.specs.Frames.{begun_frame, behind}
+use Rattle.routine_vm.specs.States.{state_of}
 use Rattle.routine_vm.specs.declared.run.Led.{Led}
 use Rattle.routine_vm.specs.declared.run.Led.TheVariants as led
 
@@ -30,6 +33,70 @@ Steps instr next before led.On later = next ≡ Some (On later)
 Steps instr next before led.Ends later = next ≡ Some (Ends later.store later.fuel)
 Steps instr next before (led.Traps cause) later = next ≡ Some (Traps cause later.store later.fuel)
 Steps instr next before led.Event later = (later ≡ before) × IsEvent instr
+
+-- the instruction has a step in the state of the run, in some module and with some words
+abbrev pub HasStep : Instr → Run → Type 0
+HasStep instr r = (m : Module) × ((store : Store) × IsSome (step m instr (state_of m r store)))
+
+-- the instruction leads so in each module and with any words, which it leaves as they are
+abbrev pub StepsAnywhere : Instr → Run → Led → Run → Type 0
+StepsAnywhere instr before to later = (m : Module) (store : Store) → Steps instr (step m instr (state_of m before store)) (state_of m before store) to (state_of m later store)
+
+-- the same bodies run and wait
+pub record HasBodiesOf (before later : Run) : Type 0 where
+  pub body : later.call.body ≡ before.call.body
+  pub waiting : later.waiting ≡ before.waiting
+
+-- ---- the families of instructions
+
+-- puts a constant or a local on top
+abbrev pub IsConstant : Instr → Type 0
+IsConstant (i.Int z) = Unit {0}
+IsConstant i.False = Unit {0}
+IsConstant i.True = Unit {0}
+IsConstant (i.Load l) = Unit {0}
+IsConstant _ = ⊥
+
+-- calculates a number of numbers
+abbrev pub IsCalculation : Instr → Type 0
+IsCalculation i.Add = Unit {0}
+IsCalculation i.Sub = Unit {0}
+IsCalculation i.Mul = Unit {0}
+IsCalculation i.Div = Unit {0}
+IsCalculation i.Rem = Unit {0}
+IsCalculation i.Neg = Unit {0}
+IsCalculation _ = ⊥
+
+-- finds a truth of values
+abbrev pub IsComparison : Instr → Type 0
+IsComparison i.Not = Unit {0}
+IsComparison i.Eq = Unit {0}
+IsComparison i.Ne = Unit {0}
+IsComparison i.Lt = Unit {0}
+IsComparison i.Le = Unit {0}
+IsComparison i.Gt = Unit {0}
+IsComparison i.Ge = Unit {0}
+IsComparison _ = ⊥
+
+-- reads a word or an array's item, writes it or adds to it
+abbrev pub IsOnWords : Instr → Type 0
+IsOnWords (i.Word a) = Unit {0}
+IsOnWords (i.Put a) = Unit {0}
+IsOnWords (i.AddWord a) = Unit {0}
+IsOnWords (i.Item b n) = Unit {0}
+IsOnWords (i.SetItem b n) = Unit {0}
+IsOnWords (i.AddItem b n) = Unit {0}
+IsOnWords _ = ⊥
+
+-- says where the call goes on
+abbrev pub IsDirection : Instr → Type 0
+IsDirection (i.Jump t) = Unit {0}
+IsDirection (i.Branch t) = Unit {0}
+IsDirection (i.Loop t) = Unit {0}
+IsDirection i.Assert = Unit {0}
+IsDirection _ = ⊥
+
+-- ---- what the parts of a step do
 
 -- a number is pushed, or the cause that it is traps
 abbrev pub Pushes : Result ℤ Cause → Frame → Led → Frame → Type 0

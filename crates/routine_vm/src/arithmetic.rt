@@ -6,38 +6,28 @@ ghost use Rattle.machine_meaning.specs.Machine as machine;
 
 use cal_base::Cause;
 
-/// The number, unless it needed more than 64 bits.
-macro_rules! or_overflow {
-    ($z:expr) => {
-        match $z {
-            Some(z) => Ok(z),
-            None => Err(Cause::Overflow),
-        }
-    };
-}
-
 pub fn sum(x: i64, y: i64) -> Result<i64, Cause>
     ensures { result ≡ arithmetic.checked (x +ℤ y) }
 {
-    or_overflow!(x.checked_add(y))
+    x.checked_add(y).ok_or(Cause::Overflow)
 }
 
 pub fn difference(x: i64, y: i64) -> Result<i64, Cause>
     ensures { result ≡ arithmetic.checked (x -ℤ y) }
 {
-    or_overflow!(x.checked_sub(y))
+    x.checked_sub(y).ok_or(Cause::Overflow)
 }
 
 pub fn product(x: i64, y: i64) -> Result<i64, Cause>
     ensures { result ≡ arithmetic.checked (x *ℤ y) }
 {
-    or_overflow!(x.checked_mul(y))
+    x.checked_mul(y).ok_or(Cause::Overflow)
 }
 
 pub fn negative(x: i64) -> Result<i64, Cause>
     ensures { result ≡ arithmetic.checked (neg_ℤ x) }
 {
-    or_overflow!(x.checked_neg())
+    x.checked_neg().ok_or(Cause::Overflow)
 }
 
 pub fn quotient(x: i64, y: i64) -> Result<i64, Cause>
@@ -46,7 +36,7 @@ pub fn quotient(x: i64, y: i64) -> Result<i64, Cause>
     if y == 0 {
         return Err(Cause::DivisionByZero);
     }
-    or_overflow!(x.checked_div(y))
+    x.checked_div(y).ok_or(Cause::Overflow)
 }
 
 pub fn remainder(x: i64, y: i64) -> Result<i64, Cause>
@@ -55,7 +45,7 @@ pub fn remainder(x: i64, y: i64) -> Result<i64, Cause>
     if y == 0 {
         return Err(Cause::DivisionByZero);
     }
-    or_overflow!(x.checked_rem(y))
+    x.checked_rem(y).ok_or(Cause::Overflow)
 }
 
 /// The address of an array's item, unless the index is outside.

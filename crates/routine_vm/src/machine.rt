@@ -8,7 +8,8 @@ ghost use Rattle.machine_meaning.specs.Machine as machine;
 ghost use Rattle.machine_meaning.specs.Runs.{main_beginning, Comes};
 ghost use Rattle.machine_meaning.specs.Meaning.{module_memory, main_of, main_at, routine_outcome};
 ghost use Rattle.code_verify.specs.Rules.{IsVerified};
-ghost use Rattle.routine_vm.specs.Ready.{IsAtEvent, outcome_from};
+ghost use Rattle.routine_vm.specs.Ready.{IsAtEvent};
+ghost use Rattle.routine_vm.specs.States.{outcome_from};
 ghost use Rattle.routine_vm.specs.Frames.{behind};
 ghost use Rattle.routine_vm.specs.Events.{piece_of, AreItemsOf};
 ghost use Rattle.routine_vm.specs.Held.{main_state, MayGoOn, event_at, IsTold, OpensBlocks, IsOutcome};
@@ -50,7 +51,8 @@ impl Model for Machine {
 }
 
 impl Machine {
-    /// A machine at main's beginning, with these units of fuel.
+    /// A machine at main's beginning, with these units of fuel for all that main does. It takes all room that its runs ever need, for 66
+    /// calls of 64 locals and 1,025 operands, and wants no memory after that.
     pub fn make(alloc: Global, code: &Verified, fuel: u32) -> Result<Machine, NoMemory>
         ensures begins { IfOk result (λ it. (memory : Memory) → main_state code.now it memory ≡ main_beginning code.now memory fuel) }
         ensures may { IfOk result (λ it. MayGoOn code.now it) }
@@ -150,7 +152,8 @@ impl Machine {
         }
     }
 
-    /// Goes on to main's next event.
+    /// Goes on to main's next event, on the image that main's earlier events and the steps that it opened left. It takes no memory. After
+    /// `Halt` or `Fault` main is done, and this is not called again.
     pub fn run_main(&mut self, code: &Verified, image: &mut Image) -> MainEvent
         requires may { MayGoOn code.now self.old }
         requires kinds { kinds_of image.old.memory ≡ kinds_of (module_memory code.now) }
@@ -175,7 +178,8 @@ impl Machine {
         }
     }
 
-    /// Runs a routine of a block to its end, and leaves what it wrote in the words. Main's state is kept.
+    /// Runs a routine of a block to its end, and leaves what it wrote in the words. The routine's number is from 0 and below its width, and
+    /// the units of fuel are its own. It takes no memory, and main's state is kept.
     pub fn run_routine<M: Words>(
         &mut self,
         code: &Verified,

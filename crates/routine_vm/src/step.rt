@@ -8,7 +8,7 @@ ghost use Rattle.routine_vm.specs.Sites.{MayUse};
 ghost use Rattle.bytecode.specs.declared.module.Module.{Module};
 ghost use Rattle.routine_vm.specs.declared.frame.Body.{Body};
 ghost use Rattle.routine_vm.specs.States.{HasBody, HasWordsOf, RunsAbove, code_of, state_of};
-ghost use Rattle.routine_vm.specs.Steps.{Steps, Pushes, Leaves, Calls, GivesBack, HaveRoom, HaveShape};
+ghost use Rattle.routine_vm.specs.Steps.{Steps, StepsAnywhere, HasStep, HasBodiesOf, IsConstant, IsCalculation, IsComparison, IsOnWords, IsDirection, Pushes, Leaves, Calls, GivesBack, HaveRoom, HaveShape};
 
 use crate::arithmetic::{difference, item_at, negative, product, quotient, remainder, sum};
 use crate::frame::Frame;
@@ -116,7 +116,7 @@ fn call(run: &mut Run, number: u32, function: &Code) -> Led
     if !spend(&mut run.fuel) {
         return Led::Traps(Cause::FuelSpent);
     }
-    if run.waiting.len() == 64 {
+    if run.waiting.is_full() {
         return Led::Traps(Cause::TooDeep);
     }
     run.waiting.enter(&mut run.call, number, function);
@@ -144,31 +144,37 @@ fn leave(run: &mut Run, gives: Gives) -> Led
     Led::On
 }
 
-/// What one instruction does.
-pub fn perform<W, S: Site<W>>(
-    m: &Module,
-    code: &Code,
-    instr: &Instr,
-    run: &mut Run,
-    words: &mut W,
-) -> Led
-    requires there { IsSome (machine.step m.now instr.now (state_of m.now run.old (S.store words.old))) }
-    requires code { code.now ≡ code_of m.now run.old.call.body }
+/// Puts a constant or a local on top.
+fn constant(instr: &Instr, run: &mut Run) -> Led
+    requires constant { IsConstant instr.now }
+    requires there { HasStep instr.now run.old }
     requires place { run.old.call.place + 1 < 2 ^ 32 }
     requires room { length run.old.call.operands ≤ 1024 }
-    requires callers { HaveRoom run.old.waiting }
-    requires deep { length run.old.waiting ≤ 64 }
-    requires shapes { HaveShape m.now.functions }
-    requires limit { m.now.words ≤ 262144 }
-    requires words { HasWordsOf m.now (S.store words.old) }
-    ensures steps { Steps instr.now (machine.step m.now instr.now (state_of m.now run.old (S.store words.old))) (state_of m.now run.old (S.store words.old)) result (state_of m.now run.new (S.store words.new)) }
-    ensures bodies { (bottom : Body) → RunsAbove m.now bottom run.old → RunsAbove m.now bottom run.new }
-    ensures leads { S.leads words.old words.new }
+    ensures steps { StepsAnywhere instr.now run.old result run.new }
+    ensures bodies { HasBodiesOf run.old run.new }
 {
     match instr {
         Instr::Int(z) => push(&mut run.call, Val::Int(*z)),
         Instr::False => push(&mut run.call, Val::Truth(false)),
         Instr::True => push(&mut run.call, Val::Truth(true)),
+        Instr::Load(l) => {
+            let v = run.call.locals.get(*l as usize);
+            push(&mut run.call, v)
+        }
+        _ => unreachable!(),
+    }
+}
+
+/// Puts what is calculated of the numbers on top in their place, or traps.
+fn calculate(instr: &Instr, run: &mut Run) -> Led
+    requires calculation { IsCalculation instr.now }
+    requires there { HasStep instr.now run.old }
+    requires place { run.old.call.place + 1 < 2 ^ 32 }
+    requires room { length run.old.call.operands ≤ 1024 }
+    ensures steps { StepsAnywhere instr.now run.old result run.new }
+    ensures bodies { HasBodiesOf run.old run.new }
+{
+    match instr {
         Instr::Add => {
             let (x, y) = run.call.operands.numbers();
             push_number(&mut run.call, sum(x, y))
@@ -193,6 +199,20 @@ pub fn perform<W, S: Site<W>>(
             let x = run.call.operands.number();
             push_number(&mut run.call, negative(x))
         }
+        _ => unreachable!(),
+    }
+}
+
+/// Puts what is found of the values on top, a truth, in their place.
+fn compare(instr: &Instr, run: &mut Run) -> Led
+    requires comparison { IsComparison instr.now }
+    requires there { HasStep instr.now run.old }
+    requires place { run.old.call.place + 1 < 2 ^ 32 }
+    requires room { length run.old.call.operands ≤ 1024 }
+    ensures steps { StepsAnywhere instr.now run.old result run.new }
+    ensures bodies { HasBodiesOf run.old run.new }
+{
+    match instr {
         Instr::Not => {
             let b = run.call.operands.truth();
             push(&mut run.call, Val::Truth(!b))
@@ -221,15 +241,23 @@ pub fn perform<W, S: Site<W>>(
             let (x, y) = run.call.operands.numbers();
             push(&mut run.call, Val::Truth(x >= y))
         }
-        Instr::Load(l) => {
-            let v = run.call.locals.get(*l as usize);
-            push(&mut run.call, v)
-        }
-        Instr::Store(l) => {
-            let v = run.call.operands.pop();
-            run.call.locals.set(*l as usize, v);
-            on(&mut run.call)
-        }
+        _ => unreachable!(),
+    }
+}
+
+/// Reads a word or an item, writes it or adds to it, or traps.
+fn on_words<W, S: Site<W>>(m: &Module, instr: &Instr, run: &mut Run, words: &mut W) -> Led
+    requires on_words { IsOnWords instr.now }
+    requires there { IsSome (machine.step m.now instr.now (state_of m.now run.old (S.store words.old))) }
+    requires place { run.old.call.place + 1 < 2 ^ 32 }
+    requires room { length run.old.call.operands ≤ 1024 }
+    requires limit { m.now.words ≤ 262144 }
+    requires words { HasWordsOf m.now (S.store words.old) }
+    ensures steps { Steps instr.now (machine.step m.now instr.now (state_of m.now run.old (S.store words.old))) (state_of m.now run.old (S.store words.old)) result (state_of m.now run.new (S.store words.new)) }
+    ensures bodies { HasBodiesOf run.old run.new }
+    ensures leads { S.leads words.old words.new }
+{
+    match instr {
         Instr::Word(a) => read::<W, S>(run, words, *a),
         Instr::Put(a) => {
             let z = run.call.operands.number();
@@ -263,6 +291,19 @@ pub fn perform<W, S: Site<W>>(
                 None => Led::Traps(Cause::OutOfRange),
             }
         }
+        _ => unreachable!(),
+    }
+}
+
+/// Goes on at a target or behind the instruction, or traps.
+fn direct(instr: &Instr, run: &mut Run) -> Led
+    requires direction { IsDirection instr.now }
+    requires there { HasStep instr.now run.old }
+    requires place { run.old.call.place + 1 < 2 ^ 32 }
+    ensures steps { StepsAnywhere instr.now run.old result run.new }
+    ensures bodies { HasBodiesOf run.old run.new }
+{
+    match instr {
         Instr::Jump(t) => jump(&mut run.call, *t),
         Instr::Branch(t) => {
             if run.call.operands.truth() {
@@ -278,15 +319,6 @@ pub fn perform<W, S: Site<W>>(
                 Led::Traps(Cause::FuelSpent)
             }
         }
-        Instr::Call(f) => match m.functions.get(*f as usize) {
-            Some(function) => call(run, *f, function),
-            None => unreachable!(),
-        },
-        Instr::Return => leave(run, code.gives),
-        Instr::Pop => {
-            let _ = run.call.operands.pop();
-            on(&mut run.call)
-        }
         Instr::Assert => {
             let holds = run.call.operands.truth();
             if holds {
@@ -295,6 +327,59 @@ pub fn perform<W, S: Site<W>>(
                 Led::Traps(Cause::Assertion)
             }
         }
+        _ => unreachable!(),
+    }
+}
+
+/// What one instruction does.
+pub fn perform<W, S: Site<W>>(
+    m: &Module,
+    code: &Code,
+    instr: &Instr,
+    run: &mut Run,
+    words: &mut W,
+) -> Led
+    requires there { IsSome (machine.step m.now instr.now (state_of m.now run.old (S.store words.old))) }
+    requires code { code.now ≡ code_of m.now run.old.call.body }
+    requires place { run.old.call.place + 1 < 2 ^ 32 }
+    requires room { length run.old.call.operands ≤ 1024 }
+    requires callers { HaveRoom run.old.waiting }
+    requires deep { length run.old.waiting ≤ 64 }
+    requires shapes { HaveShape m.now.functions }
+    requires limit { m.now.words ≤ 262144 }
+    requires words { HasWordsOf m.now (S.store words.old) }
+    ensures steps { Steps instr.now (machine.step m.now instr.now (state_of m.now run.old (S.store words.old))) (state_of m.now run.old (S.store words.old)) result (state_of m.now run.new (S.store words.new)) }
+    ensures bodies { (bottom : Body) → RunsAbove m.now bottom run.old → RunsAbove m.now bottom run.new }
+    ensures leads { S.leads words.old words.new }
+{
+    match instr {
+        Instr::Int(_) | Instr::False | Instr::True | Instr::Load(_) => constant(instr, run),
+        Instr::Add | Instr::Sub | Instr::Mul | Instr::Div | Instr::Rem | Instr::Neg => calculate(
+            instr, run,
+        ),
+        Instr::Not | Instr::Eq | Instr::Ne | Instr::Lt | Instr::Le | Instr::Gt | Instr::Ge =>
+            compare(instr, run),
+        Instr::Word(_)
+        | Instr::Put(_)
+        | Instr::AddWord(_)
+        | Instr::Item(_, _)
+        | Instr::SetItem(_, _)
+        | Instr::AddItem(_, _) => on_words::<W, S>(m, instr, run, words),
+        Instr::Jump(_) | Instr::Branch(_) | Instr::Loop(_) | Instr::Assert => direct(instr, run),
+        Instr::Store(l) => {
+            let v = run.call.operands.pop();
+            run.call.locals.set(*l as usize, v);
+            on(&mut run.call)
+        }
+        Instr::Pop => {
+            let _ = run.call.operands.pop();
+            on(&mut run.call)
+        }
+        Instr::Call(f) => match m.functions.get(*f as usize) {
+            Some(function) => call(run, *f, function),
+            None => unreachable!(),
+        },
+        Instr::Return => leave(run, code.gives),
         Instr::Print(_) | Instr::Par(_, _) => Led::Event,
     }
 }

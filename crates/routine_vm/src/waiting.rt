@@ -1,6 +1,6 @@
 //! The calls that wait.
 
-ghost use Rattle.std.specs.Prelude.{◌≡◌, ◌≢◌, ◌≤◌, ◌<◌, ◌+◌, ◌^◌, ◌∷◌, [], length, take, drop, reverse, IfOk, vec_len};
+ghost use Rattle.std.specs.Prelude.{◌≡◌, ◌≢◌, ◌≤◌, ◌<◌, ◌+◌, ◌^◌, ◌∷◌, ◌==◌, [], length, take, drop, reverse, IfOk, vec_len};
 ghost use Rattle.std.specs.Vec.{vec_capacity};
 ghost use Rattle.routine_vm.specs.Frames.{begun_frame, behind};
 
@@ -34,7 +34,7 @@ impl Model for Waiting {
     ghost invariant = { λ s. (64 ≤ vec_capacity s.waiting) × (64 ≤ vec_capacity s.reserve) × (vec_len s.waiting + vec_len s.reserve ≡ 64) };
 }
 
-/// This many frames.
+/// The frames of the reserve, one for each call that may wait.
 fn frames(alloc: Global) -> Result<Vec<Frame>, NoMemory>
     ensures many { IfOk result (λ frames. vec_len frames ≡ 64) }
     ensures room { IfOk result (λ frames. 64 ≤ vec_capacity frames) }
@@ -59,6 +59,13 @@ impl Waiting {
         ensures { result ≡ length self.now }
     {
         self.waiting.len()
+    }
+
+    /// Whether no call more may wait.
+    pub fn is_full(&self) -> bool
+        ensures { result ≡ (length self.now == 64) }
+    {
+        self.waiting.len() == ROOM
     }
 
     /// Lets the call that runs wait behind its instruction, and begins the call of a function, whose code this is, with the operands on

@@ -1,9 +1,5 @@
-use Rattle.std.proofs.Common.{◌-◌, length}
 use Rattle.code_verify.specs.Tests.{IsQuietBlock, EachBelow}
 use Rattle.code_verify.proofs.whole.blocks_fit.Given as goal
 
 abbrev pub invariant-loop-block : goal.invariant-loop-block
-invariant-loop-block l = EachBelow (λ b c. IsQuietBlock l.m l.uses c) l.m.blocks l.number
-
-abbrev pub decreases-loop-block : goal.decreases-loop-block
-decreases-loop-block l = length l.m.blocks - l.number
+invariant-loop-block l = EachBelow (λ b c. IsQuietBlock l.m l.uses c) l.m.blocks l.block-index

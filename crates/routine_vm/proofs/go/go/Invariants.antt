@@ -1,8 +1,8 @@
 use Rattle.std.proofs.Common.{◌≡◌}
 use Rattle.machine_meaning.specs.Runs.{most_steps}
 use Rattle.routine_vm.specs.declared.frame.Body.{Body}
-use Rattle.routine_vm.specs.States.{RunsAbove, state_of}
-use Rattle.routine_vm.specs.Ready.{IsReady, outcome_from}
+use Rattle.routine_vm.specs.States.{RunsAbove, state_of, outcome_from}
+use Rattle.routine_vm.specs.Ready.{IsReady}
 use Rattle.routine_vm.proofs.go.go.Given as goal
 
 -- what runs is ready, and comes to what it came to at first

@@ -6,8 +6,7 @@ use Rattle.machine_meaning.specs.Machine.{Ends, Traps}
 use Rattle.machine_meaning.specs.Runs.{Comes}
 use Rattle.routine_vm.specs.declared.frame.Body.TheVariants as body
 use Rattle.routine_vm.specs.declared.frame.Frame.{Frame}
-use Rattle.routine_vm.specs.States.{RunsAbove, call_of, state_of}
-use Rattle.routine_vm.specs.Ready.{outcome_from}
+use Rattle.routine_vm.specs.States.{RunsAbove, call_of, state_of, outcome_from}
 use Rattle.routine_vm.specs.Held.{Held, main_state, event_at}
 use Rattle.routine_vm.proofs.Mains.{alone_at_event, may_from, event_outcome, meaning_of_outcome}
 use Rattle.routine_vm.proofs.machine.Machine.run_main.Goals as goal

@@ -1,0 +1,5 @@
+use Rattle.machine_meaning.proofs.Reaches as laws
+use Rattle.machine_meaning.proofs.main_follows.Goals as goal
+
+pub returns : goal.returns
+returns c = λ m ok. laws.main_follows m ok
