@@ -15,7 +15,7 @@ use Rattle.calypso_cli.specs.Endings.{Ending, done, no_command, cannot_use, refu
 use Rattle.calypso_cli.specs.Commands.{Command, Work, Outcome, IsLoaded, IsWritten, CanEnd, ComesTo, MayReport, MayTell, refusal, worked, Loads, missing, long, not_accepted, loaded}
 use Rattle.calypso_cli.specs.Steps as step
 use Rattle.calypso_cli.specs.Steps.{Holds, ReadsAs, StopsLoad, EndsWork, whole, out_failed}
-use Rattle.calypso_cli.specs.Promise.{Objects, RanToEnd, WasRefused, LoadFailed, MayEnd, as_it_comes, for_memory, at_a_file, at_out, Touches, HoldsWritten, HoldsFronts, EndsByItself, RunsAs, OnFiles, Works}
+use Rattle.calypso_cli.specs.Promise.{Objects, RanToEnd, WasRefused, LoadFailed, MayEnd, as_it_comes, for_memory, at_a_file, at_out, Touches, HoldsWritten, HoldsFronts, EndsByItself, CanRun, RunsAs, OnFiles, Works}
 use Rattle.calypso_cli.proofs.Fronts.{whole_front}
 use Rattle.calypso_cli.proofs.Only.{only_loaded, only_refused, only_long, is_reached}
 
@@ -70,14 +70,22 @@ module _ (command : Command) (file : List ℕ) (work : Program → Work) (loads 
     -- what is told of the files, by the ending
     on_files : (ending : Ending)
         → ((contents : Contents) → before.files ≡ Some contents → EndsByItself ending → (outcome : Outcome) × Loads file work (contents file) outcome × (ending ≡ outcome.ending))
+        → ((contents : Contents) → before.files ≡ Some contents → (status_of ending ≡ 7 → CanRun command contents) × (Appends before.out after.out [] ⊎ CanRun command contents))
         → ((contents : Contents) → before.files ≡ Some contents → (outcome : Outcome) → Loads file work (contents file) outcome → RunsAs outcome before after ending)
         → (contents : Contents) → before.files ≡ Some contents → OnFiles command contents before after ending []
-    on_files ending comes runs contents is = record {
+    on_files ending comes can runs contents is = record {
       comes = λ itself. let h = comes contents is itself in (h.0, loads.back contents h.0 h.1, h.2);
+      fails = (can contents is).0;
+      wrote = (can contents is).1;
       runs = λ outcome goes. runs contents is outcome (loads.comes contents outcome goes);
       written = λ ran. ([], loads.tells contents, no_file after.files);
       fronts = no_fronts contents after.files;
     }
+
+    -- out did not fail, and got nothing
+    unwritten : (ending : Ending) {contents : Contents} → before.out ≡ after.out → (status_of ending ≡ 7 → ⊥)
+        → (status_of ending ≡ 7 → CanRun command contents) × (Appends before.out after.out [] ⊎ CanRun command contents)
+    unwritten ending out others = (λ seven. absurd (others seven), inl (subst (λ o. Appends before.out o []) out (Appends-nil before.out)))
 
     -- how the load of the program ended the call
     pub does_stop : before.out ≡ after.out → {ending : Ending} → StopsLoad before.files file before.file_faults after.file_faults ending → Works command before after ending []
@@ -88,7 +96,7 @@ module _ (command : Command) (file : List ℕ) (work : Program → Work) (loads 
       reports = loads.reports no_memory;
       silent = λ h. subst (λ o. Appends before.out o []) out (Appends-nil before.out);
       files = touches before.files after.files no_memory same;
-      told = on_files no_memory (λ contents is itself. absurd (itself.1 refl))
+      told = on_files no_memory (λ contents is itself. absurd (itself.1 refl)) (λ contents is. unwritten no_memory out (λ seven. omega (arith, seven)))
           (λ contents is outcome goes. record {
             ends = for_memory;
             text = λ ran. absurd (grind (arith, ran));
@@ -103,7 +111,7 @@ module _ (command : Command) (file : List ℕ) (work : Program → Work) (loads 
       reports = loads.reports (cannot_use file);
       silent = λ h. subst (λ o. Appends before.out o []) out (Appends-nil before.out);
       files = touches before.files after.files (cannot_use file) same;
-      told = on_files (cannot_use file) (λ contents is itself. absurd (itself.0 refl))
+      told = on_files (cannot_use file) (λ contents is itself. absurd (itself.0 refl)) (λ contents is. unwritten (cannot_use file) out (λ seven. omega (arith, seven)))
           (λ contents is outcome goes. record {
             ends = at_a_file file (is_reached file work goes);
             text = λ ran. absurd (grind (arith, ran));
@@ -121,6 +129,7 @@ module _ (command : Command) (file : List ℕ) (work : Program → Work) (loads 
       told = on_files (too_long file)
           (λ contents is itself. let h = held before.files contents file (λ text. text_limit < length text) is holds in
           (refusal file (too_long file), subst (λ o. Loads file work o (refusal file (too_long file))) (sym h.1) (long h.0 h.2), refl))
+          (λ contents is. unwritten (too_long file) out (λ seven. omega (arith, seven)))
           (λ contents is outcome goes. let h = held before.files contents file (λ text. text_limit < length text) is holds in
           let e : outcome ≡ refusal file (too_long file) = only_long file work goes h.0 h.1 h.2 in
           record {
@@ -140,6 +149,7 @@ module _ (command : Command) (file : List ℕ) (work : Program → Work) (loads 
       told = on_files (refused at why)
           (λ contents is itself. let h = held before.files contents file (ReadsAs (reading.refused at why)) is holds in
           (refusal file (refused at why), subst (λ o. Loads file work o (refusal file (refused at why))) (sym h.1) (not_accepted h.0 at why h.2.0 h.2.1), refl))
+          (λ contents is. unwritten (refused at why) out (λ seven. omega (arith, seven)))
           (λ contents is outcome goes. let h = held before.files contents file (ReadsAs (reading.refused at why)) is holds in
           let e : outcome ≡ refusal file (refused at why) = only_refused file work goes h.0 at why h.1 h.2.0 h.2.1 in
           record {
@@ -155,6 +165,14 @@ module _ (command : Command) (file : List ℕ) (work : Program → Work) (loads 
       comes_to : (contents : Contents) → before.files ≡ Some contents → Loads file work (contents file) (worked file (work p))
       comes_to contents is = let h = held before.files contents file (ReadsAs (reading.accepted p)) is holds in
           subst (λ o. Loads file work o (worked file (work p))) (sym h.1) (loaded h.0 p h.2.0 h.2.1)
+
+      can_run : (contents : Contents) → before.files ≡ Some contents → CanRun command contents
+      can_run contents is = (worked file (work p), loads.back contents (worked file (work p)) (comes_to contents is), loads.ran p)
+
+      -- so out may fail, and may have got something
+      written : (ending : Ending) (contents : Contents) → before.files ≡ Some contents
+          → (status_of ending ≡ 7 → CanRun command contents) × (Appends before.out after.out [] ⊎ CanRun command contents)
+      written ending contents is = (λ seven. can_run contents is, inr (can_run contents is))
 
       only : (contents : Contents) → before.files ≡ Some contents → (outcome : Outcome) → Loads file work (contents file) outcome → outcome ≡ worked file (work p)
       only contents is outcome goes = let h = held before.files contents file (ReadsAs (reading.accepted p)) is holds in
@@ -188,7 +206,7 @@ module _ (command : Command) (file : List ℕ) (work : Program → Work) (loads 
         reports = loads.reports (work p).ending;
         silent = λ h. absurd (not_loud (work p).ending (loads.ran p) h);
         files = touches before.files after.files (work p).ending same;
-        told = on_files (work p).ending (λ contents is itself. (worked file (work p), comes_to contents is, refl))
+        told = on_files (work p).ending (λ contents is itself. (worked file (work p), comes_to contents is, refl)) (written (work p).ending)
             (λ contents is outcome goes. let e : outcome ≡ worked file (work p) = only contents is outcome goes in
             record {
               ends = as_it_comes (work p).ending (sym (ap (λ o. o.ending) e));
@@ -204,7 +222,7 @@ module _ (command : Command) (file : List ℕ) (work : Program → Work) (loads 
         reports = loads.reports no_memory;
         silent = λ h. absurd (quiet_end no_memory (λ name is. cc) (λ r. grind (arith, r)) h);
         files = touches before.files after.files no_memory same;
-        told = on_files no_memory (λ contents is itself. absurd (itself.1 refl))
+        told = on_files no_memory (λ contents is itself. absurd (itself.1 refl)) (written no_memory)
             (λ contents is outcome goes. record {
               ends = for_memory;
               text = λ ran. absurd (grind (arith, ran));
@@ -219,7 +237,7 @@ module _ (command : Command) (file : List ℕ) (work : Program → Work) (loads 
         reports = loads.reports output_failed;
         silent = λ h. absurd (quiet_end output_failed (λ name is. cc) (λ r. grind (arith, r)) h);
         files = touches before.files after.files output_failed same;
-        told = on_files output_failed (λ contents is itself. absurd (itself.2 refl))
+        told = on_files output_failed (λ contents is itself. absurd (itself.2 refl)) (written output_failed)
             (λ contents is outcome goes. let e : outcome ≡ worked file (work p) = only contents is outcome goes in
             record {
               ends = at_out (subst (λ x. RanToEnd x) (sym (ap (λ o. o.ending) e)) (loads.ran p));

@@ -15,6 +15,10 @@ pub record Objects : Type 0 where
   pub file_faults : ℕ
   pub out_faults : ℕ
 
+-- the same by its four parts
+abbrev pub objects_of : Option Contents → Option (List ℕ) → ℕ → ℕ → Objects
+objects_of files out file_faults out_faults = record { files = files; out = out; file_faults = file_faults; out_faults = out_faults }
+
 -- what the outside tells at a moment, and its counts of faults
 pub record Outside : Type 0 where
   pub objects : Objects
@@ -85,10 +89,17 @@ pub record RunsAs (outcome : Outcome) (before after : Objects) (ending : Ending)
   pub complete : IsQuiet before.file_faults after.file_faults → IsQuiet before.out_faults after.out_faults
       → (ending ≡ no_memory) ⊎ (ending ≡ outcome.ending)
 
+-- on these files the command comes to an outcome where it did its work to the end
+abbrev pub CanRun : Command → Contents → Type 0
+CanRun command contents = (outcome : Outcome) × ComesTo command contents outcome × RanToEnd outcome.ending
+
 -- On files that told what they held.
 pub record OnFiles (command : Command) (contents : Contents) (before after : Objects) (ending : Ending) (report : List ℕ) : Type 0 where
   -- a call that ends by itself ends as the command comes to
   pub comes : EndsByItself ending → (outcome : Outcome) × ComesTo command contents outcome × (ending ≡ outcome.ending)
+  -- out fails, or gets anything, only where the command comes to an outcome where it did its work to the end
+  pub fails : status_of ending ≡ 7 → CanRun command contents
+  pub wrote : Appends before.out after.out [] ⊎ CanRun command contents
   -- and whatever the command comes to, the call runs so
   pub runs : (outcome : Outcome) → ComesTo command contents outcome → RunsAs outcome before after ending
   -- where the command did its work the file that it writes holds the text that goes with the report, and else its old bytes or a front of some such text

@@ -25,7 +25,7 @@ pub enum Ending<'a> {
     CannotUse(&'a str),
     /// The program's text is refused, by what stands at this place of it.
     Refused { at: u32, why: Refusal },
-    /// The run ends in this fault.
+    /// The run ends in this fault, which is never `Done`.
     Fault(RunEnd),
     /// Memory was wanted and not there.
     NoMemory,

@@ -13,7 +13,7 @@ use std::alloc::Global;
 use type_check::checked::Checked;
 
 /// The longest program, in bytes.
-const PROGRAM_LIMIT: usize = 1048576;
+const PROGRAM_LIMIT: usize = 1_048_576;
 
 /// The accepted program in a file, or how the call ends.
 pub(crate) fn load_program<'a, F: Files>(

@@ -14,7 +14,7 @@ use tree_eval::{EvalError, eval};
 use type_check::checked::Checked;
 
 /// The units of fuel of a run.
-const FUEL: u32 = 1000000;
+const FUEL: u32 = 1_000_000;
 
 /// Writes the canonical text of an accepted program.
 pub(crate) fn print<'a, S: Sink>(alloc: Global, program: &Checked, out: &mut S) -> Ending<'a>

@@ -2,7 +2,7 @@
 
 ghost use Rattle.std.specs.Prelude.{◌≡◌, ◌≤◌, map, string_bytes, []};
 ghost use Rattle.calypso_cli.specs.Commands.{check, eval, run};
-ghost use Rattle.calypso_cli.specs.Promise.{Gets, MayUse, MayDo, Works, KeepsPromise};
+ghost use Rattle.calypso_cli.specs.Promise.{objects_of, Gets, MayUse, MayDo, Works, KeepsPromise};
 ghost use Rattle.calypso_cli.specs.Endings.{no_memory, status_of, err_text};
 ghost use Rattle.calypso_cli.specs.Seen.{command_seen, ending_seen};
 
@@ -43,8 +43,8 @@ fn check_file<'a, F: Files, S: Sink>(
 ) -> Ending<'a>
     requires { F.may_load file.now }
     ensures works { Works (check file.now)
-        (record { files = F.holds files.old; out = S.written out.old; file_faults = F.faults files.old; out_faults = S.faults out.old })
-        (record { files = F.holds files.new; out = S.written out.new; file_faults = F.faults files.new; out_faults = S.faults out.new })
+        (objects_of (F.holds files.old) (S.written out.old) (F.faults files.old) (S.faults out.old))
+        (objects_of (F.holds files.new) (S.written out.new) (F.faults files.new) (S.faults out.new))
         (ending_seen result) [] }
     ensures files_later { F.faults files.old ≤ F.faults files.new }
     ensures out_later { S.faults out.old ≤ S.faults out.new }
@@ -64,12 +64,12 @@ fn run_file<'a, F: Files, S: Sink>(
 ) -> Ending<'a>
     requires { F.may_load file.now }
     ensures evals { Works (eval file.now)
-        (record { files = F.holds files.old; out = S.written out.old; file_faults = F.faults files.old; out_faults = S.faults out.old })
-        (record { files = F.holds files.new; out = S.written out.new; file_faults = F.faults files.new; out_faults = S.faults out.new })
+        (objects_of (F.holds files.old) (S.written out.old) (F.faults files.old) (S.faults out.old))
+        (objects_of (F.holds files.new) (S.written out.new) (F.faults files.new) (S.faults out.new))
         (ending_seen result) [] }
     ensures runs { Works (run file.now)
-        (record { files = F.holds files.old; out = S.written out.old; file_faults = F.faults files.old; out_faults = S.faults out.old })
-        (record { files = F.holds files.new; out = S.written out.new; file_faults = F.faults files.new; out_faults = S.faults out.new })
+        (objects_of (F.holds files.old) (S.written out.old) (F.faults files.old) (S.faults out.old))
+        (objects_of (F.holds files.new) (S.written out.new) (F.faults files.new) (S.faults out.new))
         (ending_seen result) [] }
     ensures files_later { F.faults files.old ≤ F.faults files.new }
     ensures out_later { S.faults out.old ≤ S.faults out.new }
@@ -89,8 +89,8 @@ fn carry_out<'a, F: Files, S: Sink>(
 ) -> Ending<'a>
     requires { MayUse F.may_load F.may_write (command_seen command.now) }
     ensures works { Works (command_seen command.now)
-        (record { files = F.holds files.old; out = S.written out.old; file_faults = F.faults files.old; out_faults = S.faults out.old })
-        (record { files = F.holds files.new; out = S.written out.new; file_faults = F.faults files.new; out_faults = S.faults out.new })
+        (objects_of (F.holds files.old) (S.written out.old) (F.faults files.old) (S.faults out.old))
+        (objects_of (F.holds files.new) (S.written out.new) (F.faults files.new) (S.faults out.new))
         (ending_seen result) [] }
     ensures files_later { F.faults files.old ≤ F.faults files.new }
     ensures out_later { S.faults out.old ≤ S.faults out.new }
@@ -118,12 +118,12 @@ pub fn calypso<R: Threads + Wait + Sync, F: Files, S: Sink, E: Sink, G: Gate>(
     requires { MayDo F.may_load F.may_write (map string_bytes words.now) }
     ensures { KeepsPromise (map string_bytes words.now)
         (record {
-          objects = record { files = F.holds files.old; out = S.written out.old; file_faults = F.faults files.old; out_faults = S.faults out.old };
+          objects = objects_of (F.holds files.old) (S.written out.old) (F.faults files.old) (S.faults out.old);
           err = E.written err.old;
           err_faults = E.faults err.old;
         })
         (record {
-          objects = record { files = F.holds files.new; out = S.written out.new; file_faults = F.faults files.new; out_faults = S.faults out.new };
+          objects = objects_of (F.holds files.new) (S.written out.new) (F.faults files.new) (S.faults out.new);
           err = E.written err.new;
           err_faults = E.faults err.new;
         })

@@ -46,7 +46,7 @@ pub fn call<R: Threads + Wait + Sync>(
 
 #[test]
 fn words_that_give_no_command(rt: HostRuntime) -> Result<(), Fail> {
-    let lists: [&[&str]; 12] = [
+    let lists: [&[&str]; 15] = [
         &[],
         &["run"],
         &["p.csl"],
@@ -57,6 +57,9 @@ fn words_that_give_no_command(rt: HostRuntime) -> Result<(), Fail> {
         &["run", "p.csl", "p.csl"],
         &["Run", "p.csl"],
         &["eval"],
+        &["run", "p.csl", "--workers", "33"],
+        &["run", "p.csl", "--fuel=0"],
+        &["run", "p.csl", "--workers", "2", "--workers", "2"],
         &["eval", "--help"],
         &["gen", "7", "0"],
     ];

@@ -6,6 +6,8 @@ mod calls;
 #[cfg(test)]
 mod checks;
 #[cfg(test)]
+mod fuel;
+#[cfg(test)]
 mod refusals;
 #[cfg(test)]
 mod runs;

@@ -110,6 +110,12 @@ fn steps(rt: HostRuntime) -> Result<(), Fail> {
             b"fault: step 1, routine 0: assertion failed\n",
         ),
         (
+            b"shared { int a[4]; int z; } main { parbegin routine[4](int w, int id) { if (id == 3) { a[0] = 1 / z; } if (id == 1) { a[4 + id] = 1; } a[id] = id; } parend; }",
+            5,
+            b"",
+            b"fault: step 1, routine 1: index out of range\n",
+        ),
+        (
             b"shared { int x; } main { for (int i = 0; i < 2; i += 1) { parbegin routine[1](int w, int id) { x = x + 1; } parend; } print(x); }",
             0,
             b"2\n",
@@ -290,6 +296,116 @@ fn values(rt: HostRuntime) -> Result<(), Fail> {
             0,
             b"9\n",
             b"",
+        ),
+    ];
+    all_come(&rt, rt.alloc(), rows)
+}
+
+#[test]
+fn sums_that_overflow(rt: HostRuntime) -> Result<(), Fail> {
+    let rows: &[Row] = &[
+        (
+            b"shared { } main { print(-9223372036854775807 + -2); }",
+            5,
+            b"",
+            b"fault: after step 0: overflow\n",
+        ),
+        (
+            b"shared { } main { print(9223372036854775807 - -1); }",
+            5,
+            b"",
+            b"fault: after step 0: overflow\n",
+        ),
+        (
+            b"shared { } main { print(4611686018427387904 * -3); }",
+            5,
+            b"",
+            b"fault: after step 0: overflow\n",
+        ),
+        (
+            b"shared { } main { int x = 9223372036854775807; x += 1; }",
+            5,
+            b"",
+            b"fault: after step 0: overflow\n",
+        ),
+        (
+            b"shared { int x; } main { x = -9223372036854775807; x += -1; print(x); x += -1; }",
+            5,
+            b"-9223372036854775808\n",
+            b"fault: after step 0: overflow\n",
+        ),
+        (
+            b"shared { int a[1] = {9223372036854775807}; } main { parbegin routine[1](int w, int id) { a[0] += 1; } parend; }",
+            5,
+            b"",
+            b"fault: step 1, routine 0: overflow\n",
+        ),
+        (
+            b"shared { tally int t; } main { parbegin routine[1](int w, int id) { t += 9223372036854775807; t += 1; t += -1; } parend; }",
+            5,
+            b"",
+            b"fault: step 1, routine 0: overflow\n",
+        ),
+    ];
+    all_come(&rt, rt.alloc(), rows)
+}
+
+/// `examples/matrix_product.csl`.
+const MATRIX_PRODUCT: &[u8] =
+    b"// The product of two 8 by 8 matrices: one routine for each item of the result.
+shared { int a[64]; int b[64]; int c[64]; }
+
+int item(int row, int column) {
+  int sum = 0;
+  for (int k = 0; k < 8; k += 1) { sum += a[row * 8 + k] * b[k * 8 + column]; }
+  return sum;
+}
+
+main {
+  // a holds i + j, and b is twice the unit matrix
+  parbegin
+  routine[64](int width, int id) {
+    a[id] = id / 8 + id % 8;
+    if (id / 8 == id % 8) { b[id] = 2; }
+  }
+  parend;
+  parbegin
+  routine[64](int width, int id) { c[id] = item(id / 8, id % 8); }
+  parend;
+  for (int row = 0; row < 8; row += 1) {
+    int at = row * 8;
+    print(c[at], c[at + 1], c[at + 2], c[at + 3], c[at + 4], c[at + 5], c[at + 6], c[at + 7]);
+  }
+}
+";
+
+/// `examples/conflict.csl`.
+const CONFLICT: &[u8] =
+    b"// Two routines of one step write the same word: the run ends in a fault that names the higher one.
+shared { int winner; }
+main {
+  print(\"who wins?\");
+  parbegin
+  routine[2](int width, int id) { winner = id; }
+  parend;
+  print(\"never printed\");
+}
+";
+
+#[test]
+fn examples(rt: HostRuntime) -> Result<(), Fail> {
+    let rows: &[Row] = &[
+        (
+            MATRIX_PRODUCT,
+            0,
+            b"0 2 4 6 8 10 12 14\n2 4 6 8 10 12 14 16\n4 6 8 10 12 14 16 18\n6 8 10 12 14 16 18 20\n8 10 12 14 16 18 20 22\n10 12 14 16 18 20 22 24\n12 14 16 18 20 22 24 26\n14 16 18 20 22 24 26 28\n",
+            b"",
+        ),
+        (
+            CONFLICT,
+            5,
+            b"who wins?\n",
+            b"fault: step 1, routine 1: word 0 also written by routine 0\n",
         ),
     ];
     all_come(&rt, rt.alloc(), rows)

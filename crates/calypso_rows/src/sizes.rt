@@ -2,8 +2,12 @@
 
 use crate::calls::call;
 use cal_base::NoMemory;
+use itoa::Buffer;
 use std::alloc::Global;
+use std::process::Abort;
+use std::sync::Wait;
 use std::test::Fail;
+use std::thread::Threads;
 
 /// Appends a text so many times.
 fn repeat(text: &mut Vec<u8>, piece: &[u8], count: usize) -> Result<(), NoMemory> {
@@ -97,7 +101,7 @@ fn long_text(alloc: Global, front: &[u8], piece: &[u8], count: usize) -> Result<
 #[test]
 fn the_longest_text(rt: HostRuntime) -> Result<(), Fail> {
     let front = b"shared { } main { print(1); }";
-    let text = long_text(rt.alloc(), front, b" ", 1048547)?;
+    let text = long_text(rt.alloc(), front, b" ", 1_048_547)?;
     let called = call(
         &rt,
         rt.alloc(),
@@ -106,7 +110,7 @@ fn the_longest_text(rt: HostRuntime) -> Result<(), Fail> {
         Vec::new(rt.alloc()),
     )?;
     assert_eq!(rt; called.out.bytes(), b"1\n".as_slice());
-    let text = long_text(rt.alloc(), front, b" ", 1048548)?;
+    let text = long_text(rt.alloc(), front, b" ", 1_048_548)?;
     let called = call(
         &rt,
         rt.alloc(),
@@ -126,19 +130,19 @@ fn long_texts_are_read_without_a_deep_stack(rt: HostRuntime) -> Result<(), Fail>
         (
             b"shared { int x; } main { ",
             b"x=1; ",
-            209710,
+            209_710,
             b"refused: at 1048575: unexpected\n",
         ),
         (
             b"shared { } main { if (true) { } ",
             b"else if (true) { } ",
-            55186,
+            55_186,
             b"refused: at 1048566: unexpected\n",
         ),
         (
             b"shared { } main { print(",
             b"-",
-            1048552,
+            1_048_552,
             b"refused: at 86: too deep\n",
         ),
     ];
@@ -155,4 +159,102 @@ fn long_texts_are_read_without_a_deep_stack(rt: HostRuntime) -> Result<(), Fail>
         assert_eq!(rt; called.status, 4);
     }
     Ok(())
+}
+
+/// What 64 items `-1` print.
+const MINUS_ONES: &[u8] =
+    b"-1 -1 -1 -1 -1 -1 -1 -1 -1 -1 -1 -1 -1 -1 -1 -1 -1 -1 -1 -1 -1 -1 -1 -1 -1 -1 -1 -1 -1 -1 -1 -1 -1 -1 -1 -1 -1 -1 -1 -1 -1 -1 -1 -1 -1 -1 -1 -1 -1 -1 -1 -1 -1 -1 -1 -1 -1 -1 -1 -1 -1 -1 -1 -1\n";
+
+#[test]
+fn levels_come_back(rt: HostRuntime) -> Result<(), Fail> {
+    let rows: [(&[u8], &[u8], usize, &[u8], &[u8]); 3] = [
+        (
+            b"shared { int x; } main { ",
+            b"x = -1; ",
+            70,
+            b"print(x); }",
+            b"-1\n",
+        ),
+        (
+            b"shared { } main { print(-1",
+            b", -1",
+            63,
+            b"); }",
+            MINUS_ONES,
+        ),
+        (
+            b"shared { int x; } main { x += ",
+            b"-",
+            63,
+            b"1; print(x); }",
+            b"-1\n",
+        ),
+    ];
+    for (front, piece, count, back, out) in rows {
+        let mut text = long_text(rt.alloc(), front, piece, count)?;
+        text.extend_from_slice(back)?;
+        let called = call(
+            &rt,
+            rt.alloc(),
+            &["run", "p.csl"],
+            &text,
+            Vec::new(rt.alloc()),
+        )?;
+        assert_eq!(rt; called.err.bytes(), b"".as_slice());
+        assert_eq!(rt; called.out.bytes(), out);
+    }
+    Ok(())
+}
+
+/// A front of a text, and behind it pieces with the numbers from 0 between these two parts.
+fn numbered_text(
+    alloc: Global,
+    front: &[u8],
+    before: &[u8],
+    after: &[u8],
+    count: u32,
+) -> Result<Vec<u8>, NoMemory> {
+    let mut text = Vec::from_slice(alloc, front)?;
+    for number in 0..count {
+        let mut digits = Buffer::new();
+        text.extend_from_slice(before)?;
+        text.extend_from_slice(digits.format(number).as_bytes())?;
+        text.extend_from_slice(after)?;
+    }
+    Ok(text)
+}
+
+/// The text, with this behind it, is refused so.
+fn is_refused<R: Threads + Wait + Sync + Abort>(
+    rt: &R,
+    alloc: Global,
+    text: Vec<u8>,
+    back: &[u8],
+    err: &[u8],
+) -> Result<(), Fail> {
+    let mut text = text;
+    text.extend_from_slice(back)?;
+    let called = call(rt, alloc, &["run", "p.csl"], &text, Vec::new(alloc))?;
+    assert_eq!(rt; called.err.bytes(), err);
+    assert_eq!(rt; called.status, 4);
+    Ok(())
+}
+
+#[test]
+fn one_too_many(rt: HostRuntime) -> Result<(), Fail> {
+    let alloc = rt.alloc();
+    let main = b"shared { } main { ";
+    let locals = numbered_text(alloc, main, b"int v", b" = 0; ", 64)?;
+    let err = b"refused: at 844: limit\n";
+    is_refused(&rt, alloc, locals, b"int last = 0; }", err)?;
+    let blocks = long_text(alloc, main, b"{ int v = 0; } ", 64)?;
+    let back = b"for (int last = 0; true; last += 1) { } }";
+    is_refused(&rt, alloc, blocks, back, b"refused: at 987: limit\n")?;
+    let front = b"shared { } main { parbegin ";
+    let routines = long_text(alloc, front, b"routine[1](int w, int id) { } ", 65)?;
+    let err = b"refused: at 1947: limit\n";
+    is_refused(&rt, alloc, routines, b"parend; }", err)?;
+    let functions = numbered_text(alloc, b"shared { } ", b"void f", b"() { } ", 256)?;
+    let err = b"refused: at 4002: limit\n";
+    is_refused(&rt, alloc, functions, b"void g() { } main { }", err)
 }

@@ -433,6 +433,18 @@ value_first = main_alone (array (codes "a") 2 ∷ scalar (codes "z") ∷ []) (se
 abbrev pub ValueBeforeRange : Type 0
 ValueBeforeRange = Writes value_first 1000000 [] (line (codes "fault: after step 0: division by zero"))
 
+-- shared { int a[2]; } main { a[2] = 1; }
+abbrev pub sets_behind : Program
+sets_behind = main_alone (array (codes "a") 2 ∷ []) (set (at_item (codes "a") (number 2)) (number 1) ∷ [])
+
+-- shared { int a[2]; } main { print(a[-1]); }
+abbrev pub reads_before : Program
+reads_before = main_alone (array (codes "a") 2 ∷ []) (print (item.Value (read (at_item (codes "a") (minus (number 1)))) ∷ []) ∷ [])
+
+-- the index is outside the array
+abbrev pub OutsideArray : Program → Type 0
+OutsideArray p = Writes p 1000000 [] (line (codes "fault: after step 0: index out of range"))
+
 -- shared { int x; } int f(int n) { x = 5; return n; } main { x += f(1); print(x); }
 abbrev pub adds_after : Program
 adds_after = record {

@@ -38,6 +38,8 @@ pub fn worked_rows()
     ensures calls_nest { rows.CallsNest }
     ensures calls_nest_too_deep { rows.CallsNestTooDeep }
     ensures value_before_range { rows.ValueBeforeRange }
+    ensures set_behind_an_array { rows.OutsideArray rows.sets_behind }
+    ensures read_before_an_array { rows.OutsideArray rows.reads_before }
     ensures value_before_reading { rows.ValueBeforeReading }
     ensures leaving_loops { rows.LeavingLoops }
     ensures fuel_for_products { rows.FuelForProducts }

@@ -20,7 +20,7 @@ use Rattle.csl_meaning.specs.Runs.{Outcome, Gives, Stops, ShowsLine, OpensStep, 
 use Rattle.csl_meaning.specs.Value.{Calls, value, unless, read, result, values, read_name, read_as_int, declared, in_range, item_at}
 use Rattle.tree_eval.specs.declared.halt.Halt.{Halt}
 use Rattle.tree_eval.specs.declared.halt.Halt.TheVariants.{Cause, NoMemory}
-use Rattle.tree_eval.specs.Follows.{Follows, Sets, Appends}
+use Rattle.tree_eval.specs.Follows.{Follows, Sets, AppendsAll}
 use Rattle.tree_eval.specs.Lists.{values_of, changed}
 use Rattle.tree_eval.specs.Changes.{changed_word, changed_name, changed_item}
 
@@ -100,7 +100,7 @@ value_appended p calls locals all rest e given v w w' is gives =
     ∙ ap (λ o. and_then (and_then o (λ x. values_of p calls locals rest >>= (λ vs. pure (x ∷ vs)))) (λ vs. pure (given ++ vs))) (sym gives)
     ∙ ap (λ l. and_then (values_of p calls locals l w) (λ vs. pure (given ++ vs))) (sym is)
 
-pub value_stops : (p : Program) (calls : Calls) (locals : Locals) (all rest : List Expr) (e : Expr) (before given given' : List Val) (h : Halt) (w w' w0 : World) (run : Run (List Val)) → all ≡ e ∷ rest → Follows (value p calls locals e.node w) (Err h) w' → (values_of p calls locals all >>= (λ vs. pure (given ++ vs))) w ≡ (run >>= (λ vs. pure (before ++ vs))) w0 → Appends run before w0 (Err h) given' w'
+pub value_stops : (p : Program) (calls : Calls) (locals : Locals) (all rest : List Expr) (e : Expr) (before given given' : List Val) (h : Halt) (w w' w0 : World) (run : Run (List Val)) → all ≡ e ∷ rest → Follows (value p calls locals e.node w) (Err h) w' → (values_of p calls locals all >>= (λ vs. pure (given ++ vs))) w ≡ (run >>= (λ vs. pure (before ++ vs))) w0 → AppendsAll run before w0 (Err h) given' w'
 value_stops p calls locals all rest e before given given' NoMemory w w' w0 run is follows inv = tt
 value_stops p calls locals all rest e before given given' (Cause c) w w' w0 run is follows inv =
     stops_by_itself (run w0) before c w' (sym inv

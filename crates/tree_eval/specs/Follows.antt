@@ -1,6 +1,5 @@
 -- What a function that evaluates ensures: the definition's outcome, unless memory is wanted.
 use Rattle.std.specs.Prelude.{◌≡◌, ℕ, List, ◌++◌, Option, Some, None, length, Result, Ok, Err}
-use Rattle.cal_base.specs.declared.value.Val.{Val}
 use Rattle.cal_base.specs.declared.value.Store.{Store}
 use Rattle.cal_base.specs.declared.value.Store.TheVariants as store
 use Rattle.cal_base.specs.Memory.{Memory}
@@ -31,11 +30,11 @@ Sets outcome (Ok u) locals after = outcome ≡ Gives locals after
 Sets outcome (Err (Cause c)) locals after = outcome ≡ Stops c after
 Sets outcome (Err NoMemory) locals after = Unit {0}
 
--- the call appended the values that the definition gives
-abbrev pub Appends : Run (List Val) → List Val → World → Result (Unit {0}) Halt → List Val → World → Type 0
-Appends run before w (Ok u) given after = (run >>= (λ vs. pure (before ++ vs))) w ≡ Gives given after
-Appends run before w (Err (Cause c)) given after = run w ≡ Stops c after
-Appends run before w (Err NoMemory) given after = Unit {0}
+-- the call appended to a list what the definition gives
+abbrev pub AppendsAll : {A : Type 0} → Run (List A) → List A → World → Result (Unit {0}) Halt → List A → World → Type 0
+AppendsAll run before w (Ok u) given after = (run >>= (λ more. pure (before ++ more))) w ≡ Gives given after
+AppendsAll run before w (Err (Cause c)) given after = run w ≡ Stops c after
+AppendsAll run before w (Err NoMemory) given after = Unit {0}
 
 -- the memory that a routine reads; main has none
 abbrev pub opening_of : Store → Option Memory
@@ -45,9 +44,3 @@ opening_of (store.Routine opening written) = Some opening
 -- what stays while no step is opened: a routine's opening memory, how many words there are, and how many steps there were
 abbrev pub stays : World → Option Memory × ℕ × ℕ
 stays w = (opening_of w.store, length (memory_in w.store), w.steps)
-
--- the call appended to a list what the definition gives
-abbrev pub AppendsAll : {A : Type 0} → Run (List A) → List A → World → Result (Unit {0}) Halt → List A → World → Type 0
-AppendsAll run before w (Ok u) given after = (run >>= (λ more. pure (before ++ more))) w ≡ Gives given after
-AppendsAll run before w (Err (Cause c)) given after = run w ≡ Stops c after
-AppendsAll run before w (Err NoMemory) given after = Unit {0}

@@ -9,7 +9,7 @@ ghost use Rattle.tree_eval.specs.Follows.{Follows, AppendsAll, stays};
 ghost use Rattle.tree_eval.specs.Pieces.{piece_of, spaced};
 
 use crate::halt::Halt;
-use crate::stmt::value;
+use crate::stmt::{MOST_LEVELS, value};
 use cal_base::{NoMemory, Val};
 use csl_meaning::{Local, World};
 use csl_tree::name::Text;
@@ -48,7 +48,7 @@ fn piece(
     match item {
         Item::Text(name) => Ok(Text::from_slice(alloc, name.text.as_slice())?),
         Item::Value(e) => {
-            let v = value(alloc, p, 64, locals, e, world)?;
+            let v = value(alloc, p, MOST_LEVELS, locals, e, world)?;
             Ok(shown(alloc, v)?)
         }
     }

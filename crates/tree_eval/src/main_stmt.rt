@@ -19,7 +19,7 @@ use crate::line::{line_of, pieces};
 use crate::main_halt::{MainHalt, main_halt};
 use crate::operators::truth_in;
 use crate::step::parbegin;
-use crate::stmt::{keep, statement, value};
+use crate::stmt::{MOST_LEVELS, keep, statement, value};
 use crate::store::take_unit;
 use cal_base::{Sink, Val, write_all};
 use csl_meaning::{Ending, Local, World};
@@ -41,7 +41,7 @@ fn main_value(
     ensures quiet { IsErrOf result out_failed → ⊥ }
     ensures goes_on { OnOk result (GoesOn world.old world.new) }
 {
-    match value(alloc, p, 64, locals, e, world) {
+    match value(alloc, p, MOST_LEVELS, locals, e, world) {
         Ok(v) => Ok(v),
         Err(halt) => Err(main_halt(halt, world.steps)),
     }
@@ -75,7 +75,7 @@ fn plain_statement(
     ensures quiet { IsErrOf result out_failed → ⊥ }
     ensures goes_on { OnOk result (GoesOn world.old world.new) }
 {
-    match statement(alloc, p, 64, s, locals, world) {
+    match statement(alloc, p, MOST_LEVELS, s, locals, world) {
         Ok(e) => Ok(e),
         Err(halt) => Err(main_halt(halt, world.steps)),
     }

@@ -134,12 +134,7 @@ fn fault_from(answer: &Option<Answer>, k: u32, word: u32, other: u32) -> StepFau
             routine: k,
             cause: *cause,
         },
-        Some(Answer::Update(_)) => StepFault::Conflict {
-            routine: k,
-            word,
-            other,
-        },
-        None => StepFault::Conflict {
+        Some(Answer::Update(_)) | None => StepFault::Conflict {
             routine: k,
             word,
             other,

@@ -8,7 +8,7 @@ ghost use Rattle.tree_eval.specs.Finished.{finished};
 ghost use Rattle.tree_eval.specs.Fits.{FitsMemory};
 
 use crate::halt::Halt;
-use crate::stmt::statements;
+use crate::stmt::{MOST_LEVELS, statements};
 use cal_base::{Answer, KeptUpdate, NoMemory, Store, Val, Word};
 use csl_meaning::{Ending, Local, World};
 use csl_tree::name::Text;
@@ -68,7 +68,14 @@ fn answer(
         fuel,
         steps: 0,
     };
-    let went = statements(alloc, p, 64, block.body.as_slice(), &mut locals, &mut world);
+    let went = statements(
+        alloc,
+        p,
+        MOST_LEVELS,
+        block.body.as_slice(),
+        &mut locals,
+        &mut world,
+    );
     finish(alloc, went, world.store)
 }
 

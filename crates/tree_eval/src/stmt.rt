@@ -4,7 +4,7 @@ ghost use Rattle.std.specs.Prelude.{◌≡◌, ◌≤◌, MatchResult, IfOk, map
 ghost use Rattle.csl_meaning.specs.Value as spec;
 ghost use Rattle.csl_meaning.specs.Effect as effects;
 ghost use Rattle.csl_meaning.specs.Locals as locals_of;
-ghost use Rattle.tree_eval.specs.Follows.{Follows, Goes, Sets, Appends, stays};
+ghost use Rattle.tree_eval.specs.Follows.{Follows, Goes, Sets, AppendsAll, stays};
 ghost use Rattle.tree_eval.specs.Fits.{FitsMemory};
 ghost use Rattle.tree_eval.specs.Lists.{values_of, changed, chosen, last_block};
 ghost use Rattle.tree_eval.specs.Changes.{changed_word, changed_local, changed_name, changed_item};
@@ -20,6 +20,9 @@ use csl_tree::name::Text;
 use csl_tree::program::{Arm, BinaryOp, Call, Expr, Form, Node, Param, Place, Program, Stmt};
 use sqlite_items::Items;
 use std::alloc::Global;
+
+/// How deep calls may nest.
+pub const MOST_LEVELS: u64 = 64;
 
 /// A result that may be a cause.
 fn caused(result_or_cause: Result<Val, Cause>) -> Result<Val, Halt>
@@ -252,7 +255,7 @@ fn values(
     world: &mut World,
 ) -> Result<(), Halt>
     requires { FitsMemory p.now.shared }
-    ensures follows { Appends (values_of p.now (effects.calls_to p.now levels) locals.now all.now) given.old world.old result given.new world.new }
+    ensures follows { AppendsAll (values_of p.now (effects.calls_to p.now levels) locals.now all.now) given.old world.old result given.new world.new }
     ensures fuel { world.new.fuel ≤ world.old.fuel }
     ensures stays { stays world.new ≡ stays world.old }
 {

@@ -10,12 +10,15 @@ ghost use Rattle.tree_eval.specs.Widths.{small_number};
 
 use crate::halt::Halt;
 use crate::operators::number_in;
-use crate::stmt::value;
+use crate::stmt::{MOST_LEVELS, value};
 use cal_base::NoMemory;
 use csl_meaning::{Local, World};
 use csl_tree::program::{Program, RoutineBlock};
 use sqlite_items::Items;
 use std::alloc::Global;
+
+/// The most routines of a step.
+const MOST_ROUTINES: u32 = 65_536;
 
 /// Appends the widths of the blocks, evaluated from left to right.
 pub fn widths_of(
@@ -32,7 +35,7 @@ pub fn widths_of(
     ensures stays { stays world.new ≡ stays world.old }
 {
     for block in blocks {
-        let v = value(alloc, p, 64, locals, &block.width, world)?;
+        let v = value(alloc, p, MOST_LEVELS, locals, &block.width, world)?;
         numbers.push(number_in(v))?;
     }
     Ok(())
@@ -42,7 +45,7 @@ pub fn widths_of(
 fn small(number: i64) -> Option<u32>
     ensures { result ≡ small_number number }
 {
-    if 0 <= number && number <= 65536 {
+    if 0 <= number && number <= i64::from(MOST_ROUTINES) {
         Some(number as u32)
     } else {
         None
@@ -59,7 +62,7 @@ pub fn good_widths(alloc: Global, numbers: &[i64]) -> Result<Option<Items<u32>>,
         match small(*number) {
             None => return Ok(None),
             Some(width) => {
-                if width > 65536 - total {
+                if width > MOST_ROUTINES - total {
                     return Ok(None);
                 }
                 total += width;

@@ -98,6 +98,12 @@ returns-clause-calls_nest_too_deep c = examples.calls_nest_too_deep
 pub returns-clause-value_before_range : goal.returns-clause-value_before_range
 returns-clause-value_before_range c = examples.value_before_range
 
+pub returns-clause-set_behind_an_array : goal.returns-clause-set_behind_an_array
+returns-clause-set_behind_an_array c = examples.set_behind_an_array
+
+pub returns-clause-read_before_an_array : goal.returns-clause-read_before_an_array
+returns-clause-read_before_an_array c = examples.read_before_an_array
+
 pub returns-clause-value_before_reading : goal.returns-clause-value_before_reading
 returns-clause-value_before_reading c = examples.value_before_reading
 
