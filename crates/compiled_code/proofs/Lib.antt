@@ -1,0 +1,17 @@
+pub mod Does
+pub mod Pieces
+pub mod Frames
+pub mod Lengths
+pub mod Operands
+pub mod Values
+pub mod Kept
+pub mod Changes
+pub mod Loops
+pub mod Statements
+pub mod Returning
+pub mod Bodies
+pub mod Routines
+pub mod Mains
+pub mod Words
+pub mod Meaning
+pub mod Rows

@@ -1,0 +1,9 @@
+pub mod Slots
+pub mod Sizes
+pub mod Places
+pub mod Values
+pub mod Statements
+pub mod Modules
+pub mod Shape
+pub mod Laws
+pub mod Rows
