@@ -83,9 +83,9 @@ module _ (command : Command) (file : List ℕ) (work : Program → Work) (loads 
     }
 
     -- out did not fail, and got nothing
-    unwritten : (ending : Ending) {contents : Contents} → before.out ≡ after.out → (status_of ending ≡ 7 → ⊥)
+    unwritten : (contents : Contents) (ending : Ending) → before.out ≡ after.out → (status_of ending ≡ 7 → ⊥)
         → (status_of ending ≡ 7 → CanRun command contents) × (Appends before.out after.out [] ⊎ CanRun command contents)
-    unwritten ending out others = (λ seven. absurd (others seven), inl (subst (λ o. Appends before.out o []) out (Appends-nil before.out)))
+    unwritten contents ending out others = (λ seven. absurd (others seven), inl (subst (λ o. Appends before.out o []) out (Appends-nil before.out)))
 
     -- how the load of the program ended the call
     pub does_stop : before.out ≡ after.out → {ending : Ending} → StopsLoad before.files file before.file_faults after.file_faults ending → Works command before after ending []
@@ -96,7 +96,7 @@ module _ (command : Command) (file : List ℕ) (work : Program → Work) (loads 
       reports = loads.reports no_memory;
       silent = λ h. subst (λ o. Appends before.out o []) out (Appends-nil before.out);
       files = touches before.files after.files no_memory same;
-      told = on_files no_memory (λ contents is itself. absurd (itself.1 refl)) (λ contents is. unwritten no_memory out (λ seven. omega (arith, seven)))
+      told = on_files no_memory (λ contents is itself. absurd (itself.1 refl)) (λ contents is. unwritten contents no_memory out (λ seven. omega (arith, seven)))
           (λ contents is outcome goes. record {
             ends = for_memory;
             text = λ ran. absurd (grind (arith, ran));
@@ -111,7 +111,7 @@ module _ (command : Command) (file : List ℕ) (work : Program → Work) (loads 
       reports = loads.reports (cannot_use file);
       silent = λ h. subst (λ o. Appends before.out o []) out (Appends-nil before.out);
       files = touches before.files after.files (cannot_use file) same;
-      told = on_files (cannot_use file) (λ contents is itself. absurd (itself.0 refl)) (λ contents is. unwritten (cannot_use file) out (λ seven. omega (arith, seven)))
+      told = on_files (cannot_use file) (λ contents is itself. absurd (itself.0 refl)) (λ contents is. unwritten contents (cannot_use file) out (λ seven. omega (arith, seven)))
           (λ contents is outcome goes. record {
             ends = at_a_file file (is_reached file work goes);
             text = λ ran. absurd (grind (arith, ran));
@@ -129,7 +129,7 @@ module _ (command : Command) (file : List ℕ) (work : Program → Work) (loads 
       told = on_files (too_long file)
           (λ contents is itself. let h = held before.files contents file (λ text. text_limit < length text) is holds in
           (refusal file (too_long file), subst (λ o. Loads file work o (refusal file (too_long file))) (sym h.1) (long h.0 h.2), refl))
-          (λ contents is. unwritten (too_long file) out (λ seven. omega (arith, seven)))
+          (λ contents is. unwritten contents (too_long file) out (λ seven. omega (arith, seven)))
           (λ contents is outcome goes. let h = held before.files contents file (λ text. text_limit < length text) is holds in
           let e : outcome ≡ refusal file (too_long file) = only_long file work goes h.0 h.1 h.2 in
           record {
@@ -149,7 +149,7 @@ module _ (command : Command) (file : List ℕ) (work : Program → Work) (loads 
       told = on_files (refused at why)
           (λ contents is itself. let h = held before.files contents file (ReadsAs (reading.refused at why)) is holds in
           (refusal file (refused at why), subst (λ o. Loads file work o (refusal file (refused at why))) (sym h.1) (not_accepted h.0 at why h.2.0 h.2.1), refl))
-          (λ contents is. unwritten (refused at why) out (λ seven. omega (arith, seven)))
+          (λ contents is. unwritten contents (refused at why) out (λ seven. omega (arith, seven)))
           (λ contents is outcome goes. let h = held before.files contents file (ReadsAs (reading.refused at why)) is holds in
           let e : outcome ≡ refusal file (refused at why) = only_refused file work goes h.0 at why h.1 h.2.0 h.2.1 in
           record {
