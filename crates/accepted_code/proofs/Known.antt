@@ -1,0 +1,116 @@
+-- What the names of an accepted program stand for.
+use Rattle.std.proofs.Common.{◌≡◌, ℕ, suc, Bool, true, false, if◌then◌else◌, List, [], ◌∷◌, ◌++◌, length, map, Option, Some, None, refl, sym, ap, ◌∙◌, subst, arith}
+use Rattle.std.specs.Prelude.{is_some}
+use Rattle.std.specs.Str.{bytes_eq}
+use Rattle.std.specs.Map.{lookup}
+use Rattle.std.proofs.lemmas.Slice.Eq.{bytes_eq-Decides}
+use Rattle.csl_tree.specs.declared.name.Name.{Name}
+use Rattle.csl_tree.specs.declared.program.Program.{Program}
+use Rattle.csl_tree.specs.declared.program.Shared.{Shared}
+use Rattle.csl_tree.specs.declared.program.Param.{Param}
+use Rattle.csl_tree.specs.declared.program.ArraySize.{ArraySize}
+use Rattle.csl_tree.specs.declared.program.Function.{Function}
+use Rattle.cal_base.specs.declared.step.WordKind.{WordKind}
+use Rattle.cal_base.specs.declared.step.WordKind.TheVariants.{Ordinary, Tally}
+use Rattle.csl_meaning.specs.Effect.{function_named}
+use Rattle.type_check.specs.declared.names.Declaration.{Declaration}
+use Rattle.type_check.specs.declared.names.Declaration.TheVariants as declared
+use Rattle.type_check.specs.declared.names.Signature.{Signature}
+use Rattle.type_check.specs.Names.{Names, meant, declare}
+use Rattle.type_check.specs.Faults.{stands_for, shared_kind, with_shared, with_params, as_declared, with_own, touches_tally, with_function, with_functions, global_names}
+
+-- the function with this name has these parameters and this result
+pub record Is (functions : List Function) (name : List ℕ) (d : Signature) : Type 0 where
+  pub function : Function
+  pub named : function_named functions name ≡ Some function
+  pub params : d.params ≡ map (λ q. q.ty) function.params
+  pub gives : d.gives ≡ function.gives
+
+-- a name that stands for a function is that of the function with its parameters and its result
+abbrev pub Knows : List Function → Names → Type 0
+Knows functions names = (name : List ℕ) (d : Signature) → lookup (bytes_eq name) names ≡ Some (declared.Function d) → Is functions name d
+
+-- ---- names that are declared
+
+-- what is found, or else this where the name is the same
+abbrev found_in : Option Declaration → Bool → Declaration → Option Declaration
+found_in (Some x) same d = Some x
+found_in None true d = Some d
+found_in None false d = None
+
+-- the first of two that is there
+abbrev first_named : Option Function → Option Function → Option Function
+first_named (Some f) other = Some f
+first_named None other = other
+
+-- a name that is declared behind others is found, if none of them has it
+found_behind : (names : Names) (name other : List ℕ) (d : Declaration) → lookup (bytes_eq name) (names ++ (other, d) ∷ []) ≡ found_in (lookup (bytes_eq name) names) (bytes_eq name other) d
+found_behind [] name other d = by (bytes_eq name other)
+  where
+    by : (b : Bool) → (if b then Some d else None) ≡ found_in None b d
+    by true = refl
+    by false = refl
+found_behind ((key, x) ∷ names) name other d = by (bytes_eq name key) (found_behind names name other d)
+  where
+    by : (b : Bool) → lookup (bytes_eq name) (names ++ (other, d) ∷ []) ≡ found_in (lookup (bytes_eq name) names) (bytes_eq name other) d
+        → (if b then Some x else lookup (bytes_eq name) (names ++ (other, d) ∷ [])) ≡ found_in (if b then Some x else lookup (bytes_eq name) names) (bytes_eq name other) d
+    by true h = refl
+    by false h = h
+
+-- after a declaration that is no function's the same functions are known
+declared_other : (functions : List Function) (names : Names) (name : Name) (d : Declaration) → ((s : Signature) → d ≡ declared.Function s → ⊥) → Knows functions names → Knows functions (declare names name d)
+declared_other functions names name d other knows = by (is_some (meant names name)) (λ t s e. told t s e)
+  where
+    told : (t : List ℕ) (s : Signature) → lookup (bytes_eq t) (names ++ (name.text, d) ∷ []) ≡ Some (declared.Function s) → Is functions t s
+    told t s e = which (lookup (bytes_eq t) names) (bytes_eq t name.text) (λ e'. knows t s e') (sym (found_behind names t name.text d) ∙ e)
+      where
+        which : (o : Option Declaration) (b : Bool) → (o ≡ Some (declared.Function s) → Is functions t s) → found_in o b d ≡ Some (declared.Function s) → Is functions t s
+        which (Some x) b known e' = known e'
+        which None true known e' = absurd (other s cc)
+        which None false known e' = absurd cc
+    by : (b : Bool) → Knows functions (names ++ (name.text, d) ∷ []) → Knows functions (if b then names else names ++ (name.text, d) ∷ [])
+    by true more = knows
+    by false more = more
+
+no_function : (size : Option ArraySize) (kind : WordKind) (s : Signature) → stands_for size kind ≡ declared.Function s → ⊥
+no_function (Some size) kind s e = cc
+no_function None Ordinary s e = cc
+no_function None Tally s e = cc
+
+shared_known : (functions : List Function) (shared : List Shared) (names : Names) → Knows functions names → Knows functions (with_shared names shared)
+shared_known functions [] names knows = knows
+shared_known functions (s ∷ rest) names knows = shared_known functions rest (declare names s.name (stands_for s.size s.kind)) (declared_other functions names s.name (stands_for s.size s.kind) (no_function s.size s.kind) knows)
+
+pub params_known : (functions : List Function) (qs : List Param) (names : Names) → Knows functions names → Knows functions (with_params names qs)
+params_known functions [] names knows = knows
+params_known functions (q ∷ qs) names knows = params_known functions qs (declare names q.name (declared.Local q.ty)) (declared_other functions names q.name (declared.Local q.ty) (λ s e. cc) knows)
+
+pub local_known : (functions : List Function) (names : Names) (name : Name) (ty : _) → Knows functions names → Knows functions (declare names name (declared.Local ty))
+local_known functions names name ty knows = declared_other functions names name (declared.Local ty) (λ s e. cc) knows
+
+-- ---- functions
+
+-- each function that is named is visible
+abbrev Sees : List Function → Names → Type 0
+Sees functions names = (name : List ℕ) (f : Function) → function_named functions name ≡ Some f → is_some (lookup (bytes_eq name) names) ≡ true
+
+-- a function behind others is named, if none of them has its name
+named_behind : (fs gs : List Function) (name : List ℕ) → function_named (fs ++ gs) name ≡ first_named (function_named fs name) (function_named gs name)
+named_behind [] gs name = refl
+named_behind (f ∷ fs) gs name = by (bytes_eq f.name.text name) (named_behind fs gs name)
+  where
+    by : (b : Bool) → function_named (fs ++ gs) name ≡ first_named (function_named fs name) (function_named gs name) → (if b then Some f else function_named (fs ++ gs) name) ≡ first_named (if b then Some f else function_named fs name) (function_named gs name)
+    by true h = refl
+    by false h = h
+
+-- what is known of some functions is known with others behind them
+pub known_behind : (fs gs : List Function) (names : Names) → Knows fs names → Knows (fs ++ gs) names
+known_behind fs gs names knows name s e =
+    let is = knows name s e in
+    record { function = is.function; named = named_behind fs gs name ∙ ap (λ (o : Option Function). first_named o (function_named gs name)) is.named; params = is.params; gives = is.gives }
+
+bytes_same : (a b : List ℕ) → bytes_eq a b ≡ true → a ≡ b
+bytes_same a b e = (bytes_eq-Decides a b).0 e
+
+bytes_self : (a : List ℕ) → bytes_eq a a ≡ true
+bytes_self a = (bytes_eq-Decides a a).1 refl
