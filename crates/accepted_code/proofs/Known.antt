@@ -3,6 +3,7 @@ use Rattle.std.proofs.Common.{◌≡◌, ℕ, suc, Bool, true, false, if◌then�
 use Rattle.std.specs.Prelude.{is_some}
 use Rattle.std.specs.Str.{bytes_eq}
 use Rattle.std.specs.Map.{lookup}
+use Rattle.std.proofs.lemmas.List.{append_assoc, append-nil}
 use Rattle.std.proofs.lemmas.Slice.Eq.{bytes_eq-Decides}
 use Rattle.csl_tree.specs.declared.name.Name.{Name}
 use Rattle.csl_tree.specs.declared.program.Program.{Program}
@@ -114,3 +115,93 @@ bytes_same a b e = (bytes_eq-Decides a b).0 e
 
 bytes_self : (a : List ℕ) → bytes_eq a a ≡ true
 bytes_self a = (bytes_eq-Decides a a).1 refl
+
+own_name : (f : Function) (t : List ℕ) → t ≡ f.name.text → function_named (f ∷ []) t ≡ Some f
+own_name f t is = ap (λ (b : Bool). if b then Some f else None) (ap (bytes_eq f.name.text) is ∙ bytes_self f.name.text)
+
+nobody : (o : Option Function) → ((g : Function) → o ≡ Some g → false ≡ true) → o ≡ None
+nobody None h = refl
+nobody (Some g) h = let never : false ≡ true = h g refl in cc
+
+-- what a declared function's name stands for
+abbrev signature : Function → Bool → Signature
+signature f touches = record { params = map (λ q. q.ty) f.params; gives = f.gives; touches = touches }
+
+is_own : (fs : List Function) (f : Function) (touches : Bool) (t : List ℕ) (s : Signature) → t ≡ f.name.text → function_named fs t ≡ None → signature f touches ≡ s → Is (fs ++ f ∷ []) t s
+is_own fs f touches t s is none same =
+    record { function = f; named = named_behind fs (f ∷ []) t ∙ ap (λ (o : Option Function). first_named o (function_named (f ∷ []) t)) none ∙ own_name f t is; params = ap (λ (d : Signature). d.params) (sym same); gives = ap (λ (d : Signature). d.gives) (sym same) }
+
+which : (fs : List Function) (f : Function) (touches : Bool) (t : List ℕ) (s : Signature) (o : Option Declaration) (same : Bool)
+    → bytes_eq t f.name.text ≡ same → (o ≡ Some (declared.Function s) → Is (fs ++ f ∷ []) t s) → ((g : Function) → function_named fs t ≡ Some g → is_some o ≡ true)
+    → found_in o same (as_declared f touches) ≡ Some (declared.Function s) → Is (fs ++ f ∷ []) t s
+which fs f touches t s (Some x) same is known seen e = known e
+which fs f touches t s None true is known seen e = let the : signature f touches ≡ s = cc in is_own fs f touches t s (bytes_same t f.name.text is) (nobody (function_named fs t) seen) the
+which fs f touches t s None false is known seen e = absurd cc
+
+-- with one function more, where it is declared
+pub own_known : (fs : List Function) (f : Function) (touches : Bool) (names : Names) → Knows fs names → Sees fs names → Knows (fs ++ f ∷ []) (declare names f.name (as_declared f touches))
+own_known fs f touches names knows sees = by (is_some (meant names f.name)) new
+  where
+    new : Knows (fs ++ f ∷ []) (names ++ (f.name.text, as_declared f touches) ∷ [])
+    new t s e = which fs f touches t s (lookup (bytes_eq t) names) (bytes_eq t f.name.text) refl (λ e'. known_behind fs (f ∷ []) names knows t s e') (λ g e'. sees t g e') (sym (found_behind names t f.name.text (as_declared f touches)) ∙ e)
+    by : (b : Bool) → Knows (fs ++ f ∷ []) (names ++ (f.name.text, as_declared f touches) ∷ []) → Knows (fs ++ f ∷ []) (if b then names else names ++ (f.name.text, as_declared f touches) ∷ [])
+    by true more = known_behind fs (f ∷ []) names knows
+    by false more = more
+
+seen_still : (names : Names) (name : Name) (d : Declaration) (t : List ℕ) → is_some (lookup (bytes_eq t) names) ≡ true → is_some (lookup (bytes_eq t) (declare names name d)) ≡ true
+seen_still names name d t h = by (is_some (meant names name))
+  where
+    still : (o : Option Declaration) (b : Bool) → is_some o ≡ true → is_some (found_in o b d) ≡ true
+    still (Some x) b h' = refl
+    still None b h' = cc
+    by : (b : Bool) → is_some (lookup (bytes_eq t) (if b then names else names ++ (name.text, d) ∷ [])) ≡ true
+    by true = h
+    by false = ap is_some (found_behind names t name.text d) ∙ still (lookup (bytes_eq t) names) (bytes_eq t name.text) h
+
+seen_own : (names : Names) (name : Name) (d : Declaration) → is_some (lookup (bytes_eq name.text) (declare names name d)) ≡ true
+seen_own names name d = by (is_some (meant names name)) refl
+  where
+    own : (o : Option Declaration) (b : Bool) → b ≡ true → is_some (found_in o b d) ≡ true
+    own (Some x) b is = refl
+    own None true is = refl
+    own None false is = cc
+    by : (b : Bool) → is_some (meant names name) ≡ b → is_some (lookup (bytes_eq name.text) (if b then names else names ++ (name.text, d) ∷ [])) ≡ true
+    by true is = is
+    by false is = ap is_some (found_behind names name.text name.text d) ∙ own (lookup (bytes_eq name.text) names) (bytes_eq name.text name.text) (bytes_self name.text)
+
+own_seen : (fs : List Function) (f : Function) (touches : Bool) (names : Names) → Sees fs names → Sees (fs ++ f ∷ []) (declare names f.name (as_declared f touches))
+own_seen fs f touches names sees t g e = by (function_named fs t) (bytes_eq f.name.text t) refl (λ h is. sees t h is) (sym (named_behind fs (f ∷ []) t) ∙ e)
+  where
+    by : (o : Option Function) (b : Bool) → bytes_eq f.name.text t ≡ b → ((h : Function) → o ≡ Some h → is_some (lookup (bytes_eq t) names) ≡ true) → first_named o (if b then Some f else None) ≡ Some g → is_some (lookup (bytes_eq t) (declare names f.name (as_declared f touches))) ≡ true
+    by (Some h) b is seen e' = seen_still names f.name (as_declared f touches) t (seen h refl)
+    by None true is seen e' = subst (λ (u : List ℕ). is_some (lookup (bytes_eq u) (declare names f.name (as_declared f touches))) ≡ true) (bytes_same f.name.text t is) (seen_own names f.name (as_declared f touches))
+    by None false is seen e' = absurd cc
+
+-- ---- all functions
+
+-- known and seen
+pub record Stand (fs : List Function) (names : Names) : Type 0 where
+  pub knows : Knows fs names
+  pub sees : Sees fs names
+
+pub no_functions : (shared : List Shared) → Stand [] (with_shared [] shared)
+no_functions shared = record { knows = shared_known [] shared [] (λ name d e. absurd (none name d e)); sees = λ name f e. absurd (nothing name f e) }
+  where
+    none : (name : List ℕ) (d : Signature) → lookup (bytes_eq name) ([] : Names) ≡ Some (declared.Function d) → ⊥
+    none name d e = cc
+    nothing : (name : List ℕ) (f : Function) → function_named [] name ≡ Some f → ⊥
+    nothing name f e = cc
+
+pub one_function : (fs : List Function) (f : Function) (touches : Bool) (names : Names) → Stand fs names → Stand (fs ++ f ∷ []) (declare names f.name (as_declared f touches))
+one_function fs f touches names stand = record { knows = own_known fs f touches names stand.knows stand.sees; sees = own_seen fs f touches names stand.sees }
+
+-- the functions that are declared after these are known as well
+pub functions_known : (fs rest : List Function) (names : Names) → Stand fs names → Knows (fs ++ rest) (with_functions names rest)
+functions_known fs [] names stand = subst (λ (l : List Function). Knows l names) (sym (append-nil fs)) stand.knows
+functions_known fs (f ∷ rest) names stand =
+    subst (λ (l : List Function). Knows l (with_functions (with_function names f) rest)) (append_assoc fs (f ∷ []) rest)
+    (functions_known (fs ++ f ∷ []) rest (with_function names f) (one_function fs f (touches_tally (with_own names f) f) names stand))
+
+-- in main each function of the program is known
+pub main_knows : (p : Program) → Knows p.functions (global_names p)
+main_knows p = functions_known [] p.functions (with_shared [] p.shared) (no_functions p.shared)
