@@ -1,5 +1,5 @@
 -- What the names of an accepted program stand for.
-use Rattle.std.proofs.Common.{◌≡◌, ℕ, suc, Bool, true, false, if◌then◌else◌, List, [], ◌∷◌, ◌++◌, length, map, Option, Some, None, refl, sym, ap, ◌∙◌, subst, arith}
+use Rattle.std.proofs.Common.{◌≡◌, ℕ, Bool, true, false, if◌then◌else◌, List, [], ◌∷◌, ◌++◌, map, Option, Some, None, refl, sym, ap, ◌∙◌, subst}
 use Rattle.std.specs.Prelude.{is_some}
 use Rattle.std.specs.Str.{bytes_eq}
 use Rattle.std.specs.Map.{lookup}
@@ -18,7 +18,7 @@ use Rattle.type_check.specs.declared.names.Declaration.{Declaration}
 use Rattle.type_check.specs.declared.names.Declaration.TheVariants as declared
 use Rattle.type_check.specs.declared.names.Signature.{Signature}
 use Rattle.type_check.specs.Names.{Names, meant, declare}
-use Rattle.type_check.specs.Faults.{stands_for, shared_kind, with_shared, with_params, as_declared, with_own, touches_tally, with_function, with_functions, global_names}
+use Rattle.type_check.specs.Faults.{stands_for, with_shared, with_params, as_declared, with_own, touches_tally, with_function, with_functions, global_names}
 
 -- the function with this name has these parameters and this result
 pub record Is (functions : List Function) (name : List ℕ) (d : Signature) : Type 0 where
@@ -187,7 +187,7 @@ pub record Stand (fs : List Function) (names : Names) : Type 0 where
 pub no_functions : (shared : List Shared) → Stand [] (with_shared [] shared)
 no_functions shared = record { knows = shared_known [] shared [] (λ name d e. absurd (none name d e)); sees = λ name f e. absurd (nothing name f e) }
   where
-    none : (name : List ℕ) (d : Signature) → lookup (bytes_eq name) ([] : Names) ≡ Some (declared.Function d) → ⊥
+    none : (name : List ℕ) (d : Signature) → lookup (bytes_eq name) [] ≡ Some (declared.Function d) → ⊥
     none name d e = cc
     nothing : (name : List ℕ) (f : Function) → function_named [] name ≡ Some f → ⊥
     nothing name f e = cc

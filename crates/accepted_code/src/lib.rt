@@ -1,9 +1,20 @@
-//! What an accepted program is to its code.
+//! What an accepted program is to its code: the shape that the code asks of a program's tree
+//! follows from the grammar and the checks. So an accepted program and its module mean the same,
+//! where the module keeps the rules of the machine.
 #![tactic(auto)]
 
-ghost use Rattle.accepted_code.specs.Laws.{AcceptedHasShape};
+ghost use Rattle.accepted_code.specs.Laws.{AcceptedHasShape, AcceptedKeepsItsMeaning};
 
-/// An accepted program has the shape that its code asks for.
+/// Each call in an accepted program has as many arguments as the function has parameters, and one
+/// that stands as a value gives one; each `for` has the heads that the grammar asks for; where a
+/// function has a result no `break` and no `continue` leads out of its body, and the body ends in
+/// a `return`.
 pub fn accepted_has_shape()
     ensures { AcceptedHasShape }
+{}
+
+/// The module of an accepted program means what the program means, for each amount of fuel: the
+/// same lines, the same steps, the same memory after each of them, and the same end.
+pub fn accepted_keeps_its_meaning()
+    ensures { AcceptedKeepsItsMeaning }
 {}
