@@ -81,15 +81,17 @@ module _ (p : Program) where
   items_are b names [] knows h = tt
   items_are b names (item.Text text ∷ rest) knows h = items_are b names rest knows h
   items_are b names (item.Value e ∷ rest) knows h =
-      let both = none_in_first (node_faults b names e.node ++ some_value (part_of names e)) (item_faults b names rest) h in
-      ( value_is p b names knows e.node (none_in_first (node_faults b names e.node) (some_value (part_of names e)) both) (none_if (same typed.Nothing (part_of names e).typed) WrongType e.at (none_in_second (node_faults b names e.node) (some_value (part_of names e)) both))
-      , items_are b names rest knows (none_in_second (node_faults b names e.node ++ some_value (part_of names e)) (item_faults b names rest) h))
+      let both = none_in_first (node_faults b names e.node ++ some_value (part_of names e)) (item_faults b names rest) h in (
+        value_is p b names knows e.node (none_in_first (node_faults b names e.node) (some_value (part_of names e)) both) (none_if (same typed.Nothing (part_of names e).typed) WrongType e.at (none_in_second (node_faults b names e.node) (some_value (part_of names e)) both)),
+        items_are b names rest knows (none_in_second (node_faults b names e.node ++ some_value (part_of names e)) (item_faults b names rest) h),
+      )
 
   set_is : (b : Body) (names : Names) (place : Place) (e : Expr) (middle : List _) → Knows p.functions names → place_faults b names place ++ middle ++ value_faults b names (place_type names place) e ≡ [] → PlaceIs p place × ValueIs p e.node
   set_is b names place e middle knows h =
-      let first_two = none_in_first (place_faults b names place ++ middle) (value_faults b names (place_type names place) e) h in
-      ( place_is p b names knows place (none_in_first (place_faults b names place) middle first_two)
-      , wanted_value b names knows (place_type names place) e (place_well_typed b names place middle first_two) (place_some names place) (none_in_second (place_faults b names place ++ middle) (value_faults b names (place_type names place) e) h))
+      let first_two = none_in_first (place_faults b names place ++ middle) (value_faults b names (place_type names place) e) h in (
+        place_is p b names knows place (none_in_first (place_faults b names place) middle first_two),
+        wanted_value b names knows (place_type names place) e (place_well_typed b names place middle first_two) (place_some names place) (none_in_second (place_faults b names place ++ middle) (value_faults b names (place_type names place) e) h),
+      )
 
   module _ (globals : Names) (known : Knows p.functions globals) where
     mutual
@@ -98,23 +100,26 @@ module _ (p : Program) where
       form_is here names at (Declare t name e) knows h heads = wanted_value here.body names knows (of_ty t) e (good_ty t) (some_ty t) (none_in_first (value_faults here.body names (of_ty t) e) (taken names name) h)
       form_is here names at (Set place e) knows h heads = set_is here.body names place e (place_tally here.body names place) knows h
       form_is here names at (AddTo place e) knows h heads = set_is here.body names place e (no_bool names place) knows h
-      form_is here names at (If' shape arms last) knows h heads =
-          ( arms_are here names arms knows (none_in_first (arm_faults globals here names arms) (last_faults globals here names last) h) heads.0
-          , last_is here names last knows (none_in_second (arm_faults globals here names arms) (last_faults globals here names last) h) heads.1)
-      form_is here names at (While' test shape body) knows h heads =
-          ( wanted_value here.body names knows typed.Bool test refl refl (none_in_first (value_faults here.body names typed.Bool test) (row_faults globals (in_loop here) names body) h)
-          , row_is (in_loop here) names body knows (none_in_second (value_faults here.body names typed.Bool test) (row_faults globals (in_loop here) names body) h) heads)
+      form_is here names at (If' shape arms last) knows h heads = (
+        arms_are here names arms knows (none_in_first (arm_faults globals here names arms) (last_faults globals here names last) h) heads.0,
+        last_is here names last knows (none_in_second (arm_faults globals here names arms) (last_faults globals here names last) h) heads.1,
+      )
+      form_is here names at (While' test shape body) knows h heads = (
+        wanted_value here.body names knows typed.Bool test refl refl (none_in_first (value_faults here.body names typed.Bool test) (row_faults globals (in_loop here) names body) h),
+        row_is (in_loop here) names body knows (none_in_second (value_faults here.body names typed.Bool test) (row_faults globals (in_loop here) names body) h) heads,
+      )
       form_is here names at (For' shape first test shape' next' shape'' body) knows h heads =
           let inside = after_row names first in
           let inside_knows = after_row_known names first knows in
           let three = none_in_first (row_faults globals here names first ++ value_faults here.body inside typed.Bool test ++ row_faults globals here inside next') (row_faults globals (in_loop here) inside body) h in
-          let two = none_in_first (row_faults globals here names first ++ value_faults here.body inside typed.Bool test) (row_faults globals here inside next') three in
-          ( heads.0
-          , row_is here names first knows (none_in_first (row_faults globals here names first) (value_faults here.body inside typed.Bool test) two) (one_simple first heads.0)
-          , wanted_value here.body inside inside_knows typed.Bool test refl refl (none_in_second (row_faults globals here names first) (value_faults here.body inside typed.Bool test) two)
-          , heads.1
-          , row_is here inside next' inside_knows (none_in_second (row_faults globals here names first ++ value_faults here.body inside typed.Bool test) (row_faults globals here inside next') three) (one_change next' heads.1)
-          , row_is (in_loop here) inside body inside_knows (none_in_second (row_faults globals here names first ++ value_faults here.body inside typed.Bool test ++ row_faults globals here inside next') (row_faults globals (in_loop here) inside body) h) heads.2)
+          let two = none_in_first (row_faults globals here names first ++ value_faults here.body inside typed.Bool test) (row_faults globals here inside next') three in (
+            heads.0,
+            row_is here names first knows (none_in_first (row_faults globals here names first) (value_faults here.body inside typed.Bool test) two) (one_simple first heads.0),
+            wanted_value here.body inside inside_knows typed.Bool test refl refl (none_in_second (row_faults globals here names first) (value_faults here.body inside typed.Bool test) two),
+            heads.1,
+            row_is here inside next' inside_knows (none_in_second (row_faults globals here names first ++ value_faults here.body inside typed.Bool test) (row_faults globals here inside next') three) (one_change next' heads.1),
+            row_is (in_loop here) inside body inside_knows (none_in_second (row_faults globals here names first ++ value_faults here.body inside typed.Bool test ++ row_faults globals here inside next') (row_faults globals (in_loop here) inside body) h) heads.2,
+          )
       form_is here names at Break knows h heads = tt
       form_is here names at Continue knows h heads = tt
       form_is here names at (Return given) knows h heads = return_is here.body names at (result_of here.body) given knows h
@@ -133,17 +138,19 @@ module _ (p : Program) where
 
       pub row_is : {n : _} (here : Here) (names : Names) (row : Row_of-Stmt n) → Knows p.functions names → row_faults globals here names row ≡ [] → RowHeads row → RowIs p row
       row_is here names end_of-Stmt knows h heads = tt
-      row_is here names (more_of-Stmt at f rest) knows h heads =
-          ( form_is here names at f knows (none_in_first (faults globals here names at f) (row_faults globals here (after names f) rest) h) heads.0
-          , row_is here (after names f) rest (after_known names f knows) (none_in_second (faults globals here names at f) (row_faults globals here (after names f) rest) h) heads.1)
+      row_is here names (more_of-Stmt at f rest) knows h heads = (
+        form_is here names at f knows (none_in_first (faults globals here names at f) (row_faults globals here (after names f) rest) h) heads.0,
+        row_is here (after names f) rest (after_known names f knows) (none_in_second (faults globals here names at f) (row_faults globals here (after names f) rest) h) heads.1,
+      )
 
       pub arms_are : {n : _} (here : Here) (names : Names) (arms : Row_of-Arm n) → Knows p.functions names → arm_faults globals here names arms ≡ [] → ArmHeads arms → ArmsAre p arms
       arms_are here names end_of-Arm knows h heads = tt
       arms_are here names (more_of-Arm (Arm' test shape body) rest) knows h heads =
-          let two = none_in_first (value_faults here.body names typed.Bool test ++ row_faults globals here names body) (arm_faults globals here names rest) h in
-          ( wanted_value here.body names knows typed.Bool test refl refl (none_in_first (value_faults here.body names typed.Bool test) (row_faults globals here names body) two)
-          , row_is here names body knows (none_in_second (value_faults here.body names typed.Bool test) (row_faults globals here names body) two) heads.0
-          , arms_are here names rest knows (none_in_second (value_faults here.body names typed.Bool test ++ row_faults globals here names body) (arm_faults globals here names rest) h) heads.1)
+          let two = none_in_first (value_faults here.body names typed.Bool test ++ row_faults globals here names body) (arm_faults globals here names rest) h in (
+            wanted_value here.body names knows typed.Bool test refl refl (none_in_first (value_faults here.body names typed.Bool test) (row_faults globals here names body) two),
+            row_is here names body knows (none_in_second (value_faults here.body names typed.Bool test) (row_faults globals here names body) two) heads.0,
+            arms_are here names rest knows (none_in_second (value_faults here.body names typed.Bool test ++ row_faults globals here names body) (arm_faults globals here names rest) h) heads.1,
+          )
 
       pub last_is : (here : Here) (names : Names) (last : Held-Form-If-1) → Knows p.functions names → last_faults globals here names last ≡ [] → LastHeads last → LastIs p last
       last_is here names form.None' knows h heads = tt
@@ -157,9 +164,10 @@ module _ (p : Program) where
           let head = value_faults b names typed.Int width ++ taken globals width_name ++ taken (declare globals width_name (declared.Local ty.Int)) id_name in
           let all_but_rest = none_in_first (head ++ row_faults globals (body_of body.Routine) inside statements ++ too_many_locals (width_name ∷ id_name ∷ locals_in_row statements)) (block_faults globals b names rest) h in
           let to_body = none_in_first (head ++ row_faults globals (body_of body.Routine) inside statements) (too_many_locals (width_name ∷ id_name ∷ locals_in_row statements)) all_but_rest in
-          let to_head = none_in_first head (row_faults globals (body_of body.Routine) inside statements) to_body in
-          ( wanted_value b names knows typed.Int width refl refl
-            (none_in_first (value_faults b names typed.Int width) (taken globals width_name)
-            (none_in_first (value_faults b names typed.Int width ++ taken globals width_name) (taken (declare globals width_name (declared.Local ty.Int)) id_name) to_head))
-          , row_is (body_of body.Routine) inside statements inside_knows (none_in_second head (row_faults globals (body_of body.Routine) inside statements) to_body) heads.0
-          , blocks_are b names rest knows (none_in_second (head ++ row_faults globals (body_of body.Routine) inside statements ++ too_many_locals (width_name ∷ id_name ∷ locals_in_row statements)) (block_faults globals b names rest) h) heads.1)
+          let to_head = none_in_first head (row_faults globals (body_of body.Routine) inside statements) to_body in (
+            wanted_value b names knows typed.Int width refl refl
+                (none_in_first (value_faults b names typed.Int width) (taken globals width_name)
+                (none_in_first (value_faults b names typed.Int width ++ taken globals width_name) (taken (declare globals width_name (declared.Local ty.Int)) id_name) to_head)),
+            row_is (body_of body.Routine) inside statements inside_knows (none_in_second head (row_faults globals (body_of body.Routine) inside statements) to_body) heads.0,
+            blocks_are b names rest knows (none_in_second (head ++ row_faults globals (body_of body.Routine) inside statements ++ too_many_locals (width_name ∷ id_name ∷ locals_in_row statements)) (block_faults globals b names rest) h) heads.1,
+          )

@@ -67,6 +67,7 @@ start_simple (changes d) = change_simple d
 
 mutual
   unfolding shape-the_row-Stmt-1 hidden-the_row-Stmt-1 shape-the_row-Stmt-2 hidden-the_row-Stmt-2 shape-the_row-Arm-0 hidden-the_row-Arm-0 shape-the_row-RoutineBlock-3 hidden-the_row-RoutineBlock-3 roll-Arm roll-RoutineBlock hidden roll
+
   pub stmt_heads : {ts rest : List Token} {s : Stmt} → SpellsStmt ts rest s → HeadsAre s.form
   stmt_heads (declared d s) = decl_heads d
   stmt_heads (changed d s) = change_heads d

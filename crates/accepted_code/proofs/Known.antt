@@ -69,6 +69,7 @@ declared_other functions names name d other knows = by (is_some (meant names nam
         which (Some x) b known e' = known e'
         which None true known e' = absurd (other s cc)
         which None false known e' = absurd cc
+
     by : (b : Bool) → Knows functions (names ++ (name.text, d) ∷ []) → Knows functions (if b then names else names ++ (name.text, d) ∷ [])
     by true more = knows
     by false more = more
@@ -144,6 +145,7 @@ own_known fs f touches names knows sees = by (is_some (meant names f.name)) new
   where
     new : Knows (fs ++ f ∷ []) (names ++ (f.name.text, as_declared f touches) ∷ [])
     new t s e = which fs f touches t s (lookup (bytes_eq t) names) (bytes_eq t f.name.text) refl (λ e'. known_behind fs (f ∷ []) names knows t s e') (λ g e'. sees t g e') (sym (found_behind names t f.name.text (as_declared f touches)) ∙ e)
+
     by : (b : Bool) → Knows (fs ++ f ∷ []) (names ++ (f.name.text, as_declared f touches) ∷ []) → Knows (fs ++ f ∷ []) (if b then names else names ++ (f.name.text, as_declared f touches) ∷ [])
     by true more = known_behind fs (f ∷ []) names knows
     by false more = more
@@ -154,6 +156,7 @@ seen_still names name d t h = by (is_some (meant names name))
     still : (o : Option Declaration) (b : Bool) → is_some o ≡ true → is_some (found_in o b d) ≡ true
     still (Some x) b h' = refl
     still None b h' = cc
+
     by : (b : Bool) → is_some (lookup (bytes_eq t) (if b then names else names ++ (name.text, d) ∷ [])) ≡ true
     by true = h
     by false = ap is_some (found_behind names t name.text d) ∙ still (lookup (bytes_eq t) names) (bytes_eq t name.text) h
@@ -165,6 +168,7 @@ seen_own names name d = by (is_some (meant names name)) refl
     own (Some x) b is = refl
     own None true is = refl
     own None false is = cc
+
     by : (b : Bool) → is_some (meant names name) ≡ b → is_some (lookup (bytes_eq name.text) (if b then names else names ++ (name.text, d) ∷ [])) ≡ true
     by true is = is
     by false is = ap is_some (found_behind names name.text name.text d) ∙ own (lookup (bytes_eq name.text) names) (bytes_eq name.text name.text) (bytes_self name.text)
@@ -189,6 +193,7 @@ no_functions shared = record { knows = shared_known [] shared [] (λ name d e. a
   where
     none : (name : List ℕ) (d : Signature) → lookup (bytes_eq name) [] ≡ Some (declared.Function d) → ⊥
     none name d e = cc
+
     nothing : (name : List ℕ) (f : Function) → function_named [] name ≡ Some f → ⊥
     nothing name f e = cc
 

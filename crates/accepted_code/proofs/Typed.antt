@@ -153,10 +153,11 @@ called fs name (Some (declared.Local t)) n known used counts = absurd cc
 called fs name (Some (declared.Function d)) n known used counts =
     let is = known d refl in
     let agree = equal n (length d.params) (true_of (nat_eq n (length d.params)) (none_if (not (nat_eq n (length d.params))) WrongCount name.at counts)) in
-    record
-      { counted = subst (λ (o : Option Function). HasCount o n) (sym is.named) (agree ∙ ap length is.params ∙ length-map is.function.params (λ q. q.ty))
-      ; valued = λ some. subst (λ (o : Option Function). HasValue (given_by o)) (sym is.named) (has_value is.function.gives (subst (λ (g : Gives). IsSome (given g)) is.gives some))
-      ; agrees = agree }
+    record {
+      counted = subst (λ (o : Option Function). HasCount o n) (sym is.named) (agree ∙ ap length is.params ∙ length-map is.function.params (λ q. q.ty));
+      valued = λ some. subst (λ (o : Option Function). HasValue (given_by o)) (sym is.named) (has_value is.function.gives (subst (λ (g : Gives). IsSome (given g)) is.gives some));
+      agrees = agree;
+    }
   where
     true_of : (b : Bool) → not b ≡ false → b ≡ true
     true_of true e = refl
@@ -173,14 +174,15 @@ parts_of : (body : Body) (names : Names) (name : Name) {n : _} (args : Row_of-Ex
     → Parts body names name args
 parts_of body names name args e =
     let first_three = none_in_first (use_faults name (meant names name) (as_call (meant names name)) ++ tally_faults body name (call_touches (meant names name)) ++ count_faults name (meant names name) (checked.count args)) (argument_faults body names (params_of (meant names name)) args) e in
-    record
-      { used =
+    record {
+      used =
           none_in_first (use_faults name (meant names name) (as_call (meant names name))) (tally_faults body name (call_touches (meant names name)))
-          (none_in_first (use_faults name (meant names name) (as_call (meant names name)) ++ tally_faults body name (call_touches (meant names name))) (count_faults name (meant names name) (checked.count args)) first_three)
-      ; counts =
+          (none_in_first (use_faults name (meant names name) (as_call (meant names name)) ++ tally_faults body name (call_touches (meant names name))) (count_faults name (meant names name) (checked.count args)) first_three);
+      counts =
           subst (λ (n : ℕ). count_faults name (meant names name) n ≡ []) (same_count args)
-          (none_in_second (use_faults name (meant names name) (as_call (meant names name)) ++ tally_faults body name (call_touches (meant names name))) (count_faults name (meant names name) (checked.count args)) first_three)
-      ; arguments = none_in_second (use_faults name (meant names name) (as_call (meant names name)) ++ tally_faults body name (call_touches (meant names name)) ++ count_faults name (meant names name) (checked.count args)) (argument_faults body names (params_of (meant names name)) args) e }
+          (none_in_second (use_faults name (meant names name) (as_call (meant names name)) ++ tally_faults body name (call_touches (meant names name))) (count_faults name (meant names name) (checked.count args)) first_three);
+      arguments = none_in_second (use_faults name (meant names name) (as_call (meant names name)) ++ tally_faults body name (call_touches (meant names name)) ++ count_faults name (meant names name) (checked.count args)) (argument_faults body names (params_of (meant names name)) args) e;
+    }
 
 module _ (p : Program) (body : Body) (names : Names) (knows : Knows p.functions names) where
   mutual
@@ -210,7 +212,7 @@ module _ (p : Program) (body : Body) (names : Names) (knows : Knows p.functions 
     place_is (Place' name None') e = tt
     place_is (Place' name (Some' shape i)) e =
         let clean = none_in_second (use_faults name (meant names name) (as_array (meant names name))) (boxed_faults body names i)
-                    (none_in_first (use_faults name (meant names name) (as_array (meant names name)) ++ boxed_faults body names i) (wanted typed.Int (boxed names i)) e) in
+        (none_in_first (use_faults name (meant names name) (as_array (meant names name)) ++ boxed_faults body names i) (wanted typed.Int (boxed names i)) e) in
         let fits = wanted_same typed.Int (boxed names i) refl (box_well_typed body names i clean) (none_in_second (use_faults name (meant names name) (as_array (meant names name)) ++ boxed_faults body names i) (wanted typed.Int (boxed names i)) e) in
         boxed_is i clean (some_of typed.Int (boxed names i).typed refl fits)
 
