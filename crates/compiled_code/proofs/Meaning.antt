@@ -58,7 +58,7 @@ use Rattle.compiled_code.proofs.Words.{first_same, meant_kinds}
 -- ---- the routine blocks of main
 
 -- each of these blocks has the shape of a routine
-abbrev AllRoutines : Program → List RoutineBlock → Type 0
+abbrev pub AllRoutines : Program → List RoutineBlock → Type 0
 AllRoutines p bs = (b : RoutineBlock) (k : ℕ) → slice_get bs k ≡ Some b → RoutineIs p b
 
 none : (p : Program) → AllRoutines p []
@@ -77,7 +77,7 @@ module _ (p : Program) where
   in_blocks (more_of-RoutineBlock (RoutineBlock' at width width_name id_name shape body) rest) h b (suc k) e = in_blocks rest h.2 b k e
 
   mutual
-    in_form : (f : Form) → FormIs p f → AllRoutines p (steps_in f)
+    pub in_form : (f : Form) → FormIs p f → AllRoutines p (steps_in f)
     in_form (Declare ty name e) h = none p
     in_form (Set place e) h = none p
     in_form (AddTo place e) h = none p

@@ -1,0 +1,25 @@
+-- The module of an accepted program keeps the rules of the machine.
+use Rattle.std.specs.Prelude.{◌≡◌, ℕ}
+use Rattle.std.specs.List.{AllByRecursion}
+use Rattle.csl_tree.specs.declared.program.Program.{Program}
+use Rattle.csl_tree.specs.declared.program.Form.TheVariants as form
+use Rattle.csl_grammar.specs.Texts.{IsSpelledWithin, text_limit}
+use Rattle.csl_meaning.specs.Meaning.{meaning}
+use Rattle.type_check.specs.Faults.{IsAccepted}
+use Rattle.bytecode.specs.Spelling.{FitsByte}
+use Rattle.code_verify.specs.Rules.{IsVerified}
+use Rattle.machine_meaning.specs.Meaning.{machine_meaning}
+use Rattle.compiled_code.specs.Sizes.{texts_in}
+use Rattle.compiled_code.specs.Modules.{module_of}
+
+-- the texts that a program prints are lists of bytes
+abbrev pub HasBytes : Program → Type 0
+HasBytes p = AllByRecursion (λ text. AllByRecursion FitsByte text) (texts_in (form.Block p.main))
+
+-- a program that some text spells and that has no fault: its module keeps the rules
+abbrev pub AcceptedIsVerified : Type 0
+AcceptedIsVerified = (p : Program) → IsSpelledWithin text_limit p → IsAccepted p → HasBytes p → IsVerified (module_of p)
+
+-- so the module means what the program means, for each amount of fuel
+abbrev pub AcceptedMeansTheSame : Type 0
+AcceptedMeansTheSame = (p : Program) → IsSpelledWithin text_limit p → IsAccepted p → HasBytes p → (fuel : ℕ) → machine_meaning (module_of p) fuel ≡ meaning p fuel
