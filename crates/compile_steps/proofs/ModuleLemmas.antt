@@ -1,0 +1,108 @@
+-- What an accepted program gives to those that write its code.
+use Rattle.std.proofs.Common.{append_assoc, drop, get_or, ◌+◌, ◌≡◌, ◌≤◌, ◌<◌, ℕ, ℤ, List, [], ◌∷◌, ◌++◌, length, map, Some, sym, ap, subst, ◌∙◌}
+use Rattle.std.specs.Prelude.{slice_get}
+use Rattle.std.specs.List.{AllByRecursion}
+use Rattle.csl_tree.specs.declared.program.Program.{Program}
+use Rattle.csl_tree.specs.declared.program.Function.{Function}
+use Rattle.csl_tree.specs.declared.program.Shared.{Shared}
+use Rattle.csl_tree.specs.declared.program.Stmt.{Stmt}
+use Rattle.bytecode.specs.declared.module.Code.{Code}
+use Rattle.csl_grammar.specs.Texts.{IsSpelledWithin, text_limit}
+use Rattle.csl_meaning.specs.Layout.{Text, first_memory}
+use Rattle.csl_meaning.specs.Meaning.{meaning}
+use Rattle.bytecode.specs.declared.module.Module.{Module}
+use Rattle.bytecode.specs.Spelling.{FitsByte}
+use Rattle.code_verify.specs.Rules.{IsVerified}
+use Rattle.machine_meaning.specs.Meaning.{machine_meaning}
+use Rattle.compiled_code.specs.Modules.{tallies_from, initial_from, function_code, block_code, main_code, module_of}
+use Rattle.compiled_code.proofs.Meaning.{means_the_same}
+use Rattle.type_check.specs.Faults.{IsAccepted}
+use Rattle.accepted_code.proofs.Accepted.{accepted_shape}
+use Rattle.type_check.proofs.ExpressionLemmas.{next_item}
+use Rattle.verified_code.specs.Laws.{HasBytes}
+use Rattle.verified_code.proofs.Verified.{is_verified}
+use Rattle.verified_code.proofs.Named.{named_is}
+use Rattle.verified_code.proofs.Parts.{spelled_program}
+use Rattle.verified_code.proofs.SharedWords.{shared_means}
+use Rattle.verified_code.proofs.Bodies.{few_params}
+use Rattle.compile_steps.specs.Lists.{texts_of, steps_of, StatementsAre}
+use Rattle.compile_steps.proofs.Bridges.{texts_row, steps_row}
+use Rattle.compile_steps.proofs.BodyLemmas.{body_shape}
+
+module _ (p : Program) (spelled : IsSpelledWithin text_limit p) (accepted : IsAccepted p) where
+  -- the body of a function has the shape that its code asks for
+  pub function_shape : (k : ℕ) (f : Function) → slice_get p.functions k ≡ Some f → StatementsAre p f.body
+  function_shape k f e = body_shape p f.body ((accepted_shape p spelled accepted).functions f.name.text f (named_is p accepted k f e)).body
+
+  -- it has 8 parameters at most
+  pub function_params : (k : ℕ) (f : Function) → slice_get p.functions k ≡ Some f → length f.params ≤ 8
+  function_params k f e = few_params p accepted (shared_means p accepted (spelled_program p spelled).arrays) k f e
+
+  -- and so has main
+  pub main_shape : StatementsAre p p.main
+  main_shape = body_shape p p.main (accepted_shape p spelled accepted).main
+
+-- the module of a program, over the lists of its parts
+pub module_is : (p : Program) → module_of p ≡ record {
+  words = length (first_memory p.shared);
+  tallies = tallies_from 0 (first_memory p.shared);
+  initial = initial_from 0 (first_memory p.shared);
+  texts = texts_of p.main;
+  functions = map (λ f. function_code p f) p.functions;
+  blocks = map (λ b. block_code p b) (steps_of p.main);
+  main = main_code p;
+}
+module_is p = λ j. record {
+  words = length (first_memory p.shared);
+  tallies = tallies_from 0 (first_memory p.shared);
+  initial = initial_from 0 (first_memory p.shared);
+  texts = texts_row p.main j;
+  functions = map (λ f. function_code p f) p.functions;
+  blocks = map (λ b. block_code p b) (steps_row p.main j);
+  main = main_code p;
+}
+
+-- so it is one that was made of these parts
+pub module_made : (p q : Program) (shared : List Shared) (one two : List Stmt) (fs : List Function) (words : ℕ) (t0 tallies : List ℕ) (i0 initial : List (ℕ × ℤ)) (x0 texts : List Text) (functions b0 blocks : List Code) (main : Code)
+    → q ≡ p → shared ≡ p.shared → one ≡ p.main → two ≡ p.main → fs ≡ p.functions → t0 ≡ [] → i0 ≡ [] → x0 ≡ [] → b0 ≡ []
+    → words ≡ length (first_memory shared)
+    → tallies ≡ t0 ++ tallies_from 0 (first_memory shared)
+    → initial ≡ i0 ++ initial_from 0 (first_memory shared)
+    → texts ≡ x0 ++ texts_of one
+    → functions ≡ map (λ f. function_code q f) fs
+    → blocks ≡ b0 ++ map (λ b. block_code q b) (steps_of two)
+    → main ≡ main_code q
+    → record { words = words; tallies = tallies; initial = initial; texts = texts; functions = functions; blocks = blocks; main = main } ≡ module_of p
+module_made p q shared one two fs words t0 tallies i0 initial x0 texts functions b0 blocks main eq es e1 e2 ef et ei ex eb w t i x f b m =
+    (λ j. record {
+      words = (w ∙ ap (λ (l : List Shared). length (first_memory l)) es) j;
+      tallies = (t ∙ (λ k. et k ++ tallies_from 0 (first_memory (es k)))) j;
+      initial = (i ∙ (λ k. ei k ++ initial_from 0 (first_memory (es k)))) j;
+      texts = (x ∙ (λ k. ex k ++ texts_of (e1 k))) j;
+      functions = (f ∙ (λ k. map (λ g. function_code (eq k) g) (ef k))) j;
+      blocks = (b ∙ (λ k. eb k ++ map (λ g. block_code (eq k) g) (steps_of (e2 k)))) j;
+      main = (m ∙ ap main_code eq) j;
+    })
+    ∙ sym (module_is p)
+
+-- texts of bytes are those of a program
+pub has_bytes : (p : Program) (texts : List Text) → texts ≡ texts_of p.main → AllByRecursion (λ text. AllByRecursion FitsByte text) texts → HasBytes p
+has_bytes p texts e h = subst (λ (l : List Text). AllByRecursion (λ text. AllByRecursion FitsByte text) l) (e ∙ sym (texts_row p.main)) h
+
+module _ (p : Program) (spelled : IsSpelledWithin text_limit p) (accepted : IsAccepted p) (bytes : HasBytes p) (m : Module) (same : m ≡ module_of p) where
+  -- the module keeps the rules, and means what the program means
+  pub module_verified : IsVerified m
+  module_verified = subst (λ (n : Module). IsVerified n) (sym same) (is_verified p spelled accepted bytes)
+
+  pub module_means : (fuel : ℕ) → machine_meaning m fuel ≡ meaning p fuel
+  module_means fuel = ap (λ (n : Module). machine_meaning n fuel) same ∙ means_the_same p (is_verified p spelled accepted bytes) (accepted_shape p spelled accepted) fuel
+
+-- the code of one more function
+pub next_codes : (p : Program) (codes next all : List Code) (code : Code) (fs : List Function) (k : ℕ) (f : Function) → next ≡ codes ++ code ∷ [] → code ≡ function_code p f → k < length fs → f ≡ get_or fs k f
+    → codes ++ map (λ g. function_code p g) (drop k fs) ≡ all → next ++ map (λ g. function_code p g) (drop (k + 1) fs) ≡ all
+next_codes p codes next all code fs k f pushed is lt there so_far =
+    ap (λ (l : List Code). l ++ map (λ g. function_code p g) (drop (k + 1) fs)) pushed
+    ∙ append_assoc codes (code ∷ []) (map (λ g. function_code p g) (drop (k + 1) fs))
+    ∙ ap (λ (x : Code). codes ++ (x ∷ map (λ g. function_code p g) (drop (k + 1) fs))) is
+    ∙ sym (ap (λ (l : List Function). codes ++ map (λ g. function_code p g) l) (next_item fs k f lt there))
+    ∙ so_far

@@ -1,0 +1,24 @@
+use Rattle.std.proofs.Common.{◌∙◌, ◌++◌, sym, subst}
+use Rattle.csl_tree.specs.declared.program.Program.{Program}
+use Rattle.compile_steps.specs.Lists.{texts_of, StatementsAre}
+use Rattle.compile_steps.proofs.ModuleLemmas.{main_shape, module_made, has_bytes}
+use Rattle.compile_steps.proofs.module.module_of.Goals as goal
+
+pub push_blocks-requires : goal.push_blocks-requires
+push_blocks-requires c = record { shape = subst (λ (q : Program). StatementsAre q c.as_slice-5.result.now) (sym c.in_ok-names.ensures) (subst (StatementsAre c.args.program.now) (sym c.as_slice-5.ensures) (main_shape c.args.program.now c.requires.spelled c.requires.accepted)) }
+
+pub main_code-requires-clause-shape : goal.main_code-requires-clause-shape
+main_code-requires-clause-shape c = subst (λ (q : Program). StatementsAre q c.as_slice-6.result.now) (sym c.in_ok-names.ensures) (subst (StatementsAre c.args.program.now) (sym c.as_slice-6.ensures) (main_shape c.args.program.now c.requires.spelled c.requires.accepted))
+
+pub returns-clause-module : goal.returns-clause-module
+returns-clause-module c =
+    module_made c.args.program.now c.in_ok-names.names c.as_slice.result.now c.as_slice-2.result.now c.as_slice-5.result.now c.as_slice-4.result.now
+    c.in_ok-words.words c.new-tallies.result c.push_words.new.tallies c.new-initial.result c.push_words.new.initial c.new-texts.result c.push_texts.new.texts c.in_ok-functions.functions c.new-blocks.result c.push_blocks.new.codes c.in_ok-main.main
+    c.in_ok-names.ensures c.as_slice.ensures c.as_slice-2.ensures c.as_slice-5.ensures c.as_slice-4.ensures c.new-tallies.ensures c.new-initial.ensures c.new-texts.ensures c.new-blocks.ensures
+    c.in_ok-words.ensures.count c.in_ok-words.ensures.tallies c.in_ok-words.ensures.initial c.in_ok-push_texts.ensures c.in_ok-functions.ensures c.in_ok-push_blocks.ensures c.in_ok-main.ensures
+
+pub returns-clause-bytes : goal.returns-clause-bytes
+returns-clause-bytes c =
+    has_bytes c.args.program.now c.as_slice-3.result.now
+    (c.as_slice-3.ensures ∙ c.in_ok-push_texts.ensures ∙ (λ k. c.new-texts.ensures k ++ texts_of (c.as_slice-2.ensures k)))
+    c.hold_bytes.ensures

@@ -1,0 +1,4 @@
+pub mod Scopes
+pub mod Lists
+pub mod Writing
+pub mod Areas

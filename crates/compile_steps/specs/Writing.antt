@@ -1,0 +1,84 @@
+-- Code as it is written, instruction by instruction.
+use Rattle.std.specs.Prelude.{◌≡◌, ℕ, ◌+◌, List, [], ◌∷◌, ◌++◌, length, Option}
+use Rattle.csl_tree.specs.declared.program.Program.{Program}
+use Rattle.csl_tree.specs.declared.program.Ty.{Ty as Type'}
+use Rattle.csl_tree.specs.declared.program.Expr.{Expr}
+use Rattle.csl_tree.specs.declared.program.Item.{Item}
+use Rattle.csl_tree.specs.declared.program.Stmt.{Stmt}
+use Rattle.csl_tree.specs.declared.program.Arm.{Arm}
+use Rattle.csl_tree.specs.declared.program.RoutineBlock.{RoutineBlock}
+use Rattle.csl_tree.specs.declared.program.Form.{Form}
+use Rattle.csl_meaning.specs.Layout.{Text}
+use Rattle.bytecode.specs.declared.instr.Instr.{Instr}
+use Rattle.bytecode.specs.declared.instr.Instr.TheVariants as i
+use Rattle.compiled_code.specs.Slots.{Slots, with_slot, kind_of}
+use Rattle.compiled_code.specs.Sizes.{size_of, kinds_in, texts_in, steps_in, item_texts}
+use Rattle.compiled_code.specs.Places.{slots_after}
+use Rattle.compiled_code.specs.Values.{code_of}
+use Rattle.compiled_code.specs.Statements.{At, Exits, form_code, items_code, printed_items, widths_code}
+use Rattle.compile_steps.specs.declared.writer.Writer.{Writer}
+use Rattle.compile_steps.specs.declared.statements.Around.{Around}
+use Rattle.compile_steps.specs.Lists.{statements_size, step_size, slots_after_all, kinds_of, kinds_of_arms, kinds_of_last, texts_of, texts_of_arms, texts_of_last, steps_of, steps_of_arms, steps_of_last, statements_code, all_arms_code, last_block_code, while_code}
+
+-- where the next statement's code begins, and its locals, texts and blocks
+abbrev pub here : Writer → At
+here w = record { place = length w.instrs; slot = w.scope.next; text = w.text; block = w.block }
+
+-- this code was written; these locals are visible; so many locals were declared, texts printed and blocks opened
+pub record Wrote (code : List Instr) (visible : Slots) (declared printed opened : ℕ) (old new : Writer) : Type 0 where
+  pub instrs : new.instrs ≡ old.instrs ++ code
+  pub slots : new.scope.slots ≡ visible
+  pub locals : new.scope.next ≡ old.scope.next + declared
+  pub texts : new.text ≡ old.text + printed
+  pub blocks : new.block ≡ old.block + opened
+
+-- code without locals, texts and blocks
+abbrev pub WroteCode : List Instr → Writer → Writer → Type 0
+WroteCode code old new = Wrote code old.scope.slots 0 0 0 old new
+
+module _ (p : Program) where
+  -- a declaration
+  abbrev pub WroteDeclare : Type' → Text → Expr → Writer → Writer → Type 0
+  WroteDeclare ty name e old new =
+      Wrote (code_of p old.scope.slots e (length old.instrs) ++ i.Store old.scope.next ∷ []) (with_slot old.scope.slots name old.scope.next (kind_of ty)) 1 0 0 old new
+
+  -- A test in front of a block: where it is false, it leads on behind the jump that stands behind the block and, if there is one, behind a statement.
+  pub record WroteTest (test : Expr) (body : List Stmt) (next : Option Form) (around : Around) (old new : Writer) : Type 0 where
+    pub code : WroteCode (code_of p old.scope.slots test (length old.instrs) ++ i.Branch around.out ∷ []) old new
+    pub begins : around.test ≡ length old.instrs
+    pub behind : around.behind ≡ length old.instrs + size_of test + 1 + statements_size p body old.scope.slots old.scope.next
+    pub out : around.out ≡ around.behind + step_size p next old.scope.slots (old.scope.next + length (kinds_of body)) + 1
+
+  -- a line
+  abbrev pub WrotePrint : List Item → Writer → Writer → Type 0
+  WrotePrint items old new =
+      Wrote (items_code p old.scope.slots items (length old.instrs) ++ i.Print (printed_items p old.scope.slots items old.text) ∷ []) old.scope.slots 0 (length (item_texts items)) 0 old new
+
+  -- a step
+  abbrev pub WroteStep : List RoutineBlock → Writer → Writer → Type 0
+  WroteStep blocks old new = Wrote (widths_code p old.scope.slots blocks (length old.instrs) ++ i.Par old.block (length blocks) ∷ []) old.scope.slots 0 0 (length blocks) old new
+
+  -- a statement
+  abbrev pub WroteForm : Form → Exits → Writer → Writer → Type 0
+  WroteForm f exits old new = Wrote (form_code p f old.scope.slots (here old) exits) (slots_after old.scope.slots old.scope.next f) (length (kinds_in f)) (length (texts_in f)) (length (steps_in f)) old new
+
+  -- statements, one behind the other
+  abbrev pub WroteAll : List Stmt → Exits → Writer → Writer → Type 0
+  WroteAll body exits old new =
+      Wrote (statements_code p body old.scope.slots (here old) exits) (slots_after_all old.scope.slots old.scope.next body) (length (kinds_of body)) (length (texts_of body)) (length (steps_of body)) old new
+
+  -- the statements of a block, whose locals are not visible behind it
+  abbrev pub WroteBlock : List Stmt → Exits → Writer → Writer → Type 0
+  WroteBlock body exits old new = Wrote (statements_code p body old.scope.slots (here old) exits) old.scope.slots (length (kinds_of body)) (length (texts_of body)) (length (steps_of body)) old new
+
+  -- the arms of an `if` that ends at this place
+  abbrev pub WroteArms : List Arm → Exits → ℕ → Writer → Writer → Type 0
+  WroteArms arms exits end old new = Wrote (all_arms_code p arms old.scope.slots (here old) exits end) old.scope.slots (length (kinds_of_arms arms)) (length (texts_of_arms arms)) (length (steps_of_arms arms)) old new
+
+  -- the last block of an `if`, if there is one
+  abbrev pub WroteLast : Option (List Stmt) → Exits → Writer → Writer → Type 0
+  WroteLast last exits old new = Wrote (last_block_code p last old.scope.slots (here old) exits) old.scope.slots (length (kinds_of_last last)) (length (texts_of_last last)) (length (steps_of_last last)) old new
+
+  -- a `while`
+  abbrev pub WroteWhile : Expr → List Stmt → Writer → Writer → Type 0
+  WroteWhile test body old new = Wrote (while_code p test body old.scope.slots (here old)) old.scope.slots (length (kinds_of body)) (length (texts_of body)) (length (steps_of body)) old new
