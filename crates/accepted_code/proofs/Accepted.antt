@@ -4,8 +4,8 @@ use Rattle.std.specs.Str.{bytes_eq}
 use Rattle.std.proofs.lemmas.List.{append_assoc}
 use Rattle.csl_tree.specs.declared.program.Program.{Program}
 use Rattle.csl_tree.specs.declared.program.Function.{Function}
-use Rattle.csl_tree.specs.declared.program.Gives.{Gives}
-use Rattle.csl_tree.specs.declared.program.Gives.TheVariants as gives
+use Rattle.cal_terms.specs.declared.types.Gives.{Gives}
+use Rattle.cal_terms.specs.declared.types.Gives.TheVariants as gives
 use Rattle.csl_tree.specs.declared.program.Form.TheVariants as variant
 use Rattle.csl_grammar.specs.Texts.{IsSpelledWithin, text_limit}
 use Rattle.csl_meaning.specs.Effect.{function_named}

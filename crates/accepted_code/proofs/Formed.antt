@@ -2,9 +2,9 @@
 use Rattle.std.proofs.Common.{◌≡◌, ℕ, Bool, true, false, if◌then◌else◌, List, [], ◌∷◌, ◌++◌, map, Option, Some, None, refl}
 use Rattle.std.specs.Prelude.{not}
 use Rattle.csl_tree.specs.declared.program.Program.{Program}
-use Rattle.csl_tree.specs.declared.program.Ty.TheVariants as ty
-use Rattle.csl_tree.specs.declared.program.Gives.{Gives}
-use Rattle.csl_tree.specs.declared.program.Gives.TheVariants as gives
+use Rattle.cal_terms.specs.declared.types.Ty.TheVariants as ty
+use Rattle.cal_terms.specs.declared.types.Gives.{Gives}
+use Rattle.cal_terms.specs.declared.types.Gives.TheVariants as gives
 use Rattle.csl_tree.specs.declared.program.Expr.{Expr}
 use Rattle.csl_tree.specs.declared.program.Place.{Place}
 use Rattle.csl_tree.specs.declared.program.Item.{Item}

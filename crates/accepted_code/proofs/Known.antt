@@ -11,8 +11,8 @@ use Rattle.csl_tree.specs.declared.program.Shared.{Shared}
 use Rattle.csl_tree.specs.declared.program.Param.{Param}
 use Rattle.csl_tree.specs.declared.program.ArraySize.{ArraySize}
 use Rattle.csl_tree.specs.declared.program.Function.{Function}
-use Rattle.cal_base.specs.declared.step.WordKind.{WordKind}
-use Rattle.cal_base.specs.declared.step.WordKind.TheVariants.{Ordinary, Tally}
+use Rattle.cal_terms.specs.declared.kinds.WordKind.{WordKind}
+use Rattle.cal_terms.specs.declared.kinds.WordKind.TheVariants.{Ordinary, Tally}
 use Rattle.csl_meaning.specs.Effect.{function_named}
 use Rattle.type_check.specs.declared.names.Declaration.{Declaration}
 use Rattle.type_check.specs.declared.names.Declaration.TheVariants as declared

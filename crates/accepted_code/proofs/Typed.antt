@@ -5,10 +5,10 @@ use Rattle.std.proofs.lemmas.List.{length-map}
 use Rattle.csl_tree.specs.declared.name.Name.{Name}
 use Rattle.csl_tree.specs.declared.program.Program.{Program}
 use Rattle.csl_tree.specs.declared.program.Function.{Function}
-use Rattle.csl_tree.specs.declared.program.Gives.{Gives}
-use Rattle.csl_tree.specs.declared.program.Gives.TheVariants as gives
-use Rattle.csl_tree.specs.declared.program.Ty.{Ty}
-use Rattle.csl_tree.specs.declared.program.Ty.TheVariants as ty
+use Rattle.cal_terms.specs.declared.types.Gives.{Gives}
+use Rattle.cal_terms.specs.declared.types.Gives.TheVariants as gives
+use Rattle.cal_terms.specs.declared.types.Ty.{Ty}
+use Rattle.cal_terms.specs.declared.types.Ty.TheVariants as ty
 use Rattle.csl_tree.specs.declared.program.UnaryOp.{UnaryOp}
 use Rattle.csl_tree.specs.declared.program.UnaryOp.TheVariants.{Neg, Not}
 use Rattle.csl_tree.specs.declared.program.BinaryOp.{BinaryOp}

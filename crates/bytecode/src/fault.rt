@@ -3,7 +3,7 @@
 ghost use Rattle.std.specs.Prelude.{◌≡◌};
 ghost use Rattle.bytecode.specs.declared.fault.DecodeError.TheVariants.{NoMemory as memory_wanted};
 
-use cal_base::NoMemory;
+use cal_terms::NoMemory;
 use std::alloc::AllocError;
 
 /// Why bytes are not decoded.

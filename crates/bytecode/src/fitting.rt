@@ -10,7 +10,7 @@ use crate::reading::{
     BlockForm, FunctionForm, InitialForm, InstrForm, KindForm, NumberForm, PrintItemForm, TextForm,
     are_ascending, have_ascending,
 };
-use crate::text::Text;
+use cal_terms::Text;
 
 /// Which values have a spelling.
 pub trait Fitting {

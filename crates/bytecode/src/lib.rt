@@ -7,7 +7,6 @@ pub mod instr;
 pub mod laws;
 pub mod module;
 mod reading;
-pub mod text;
 mod writing;
 
 pub use fault::DecodeError;
@@ -15,7 +14,7 @@ pub use fitting::has_spelling;
 pub use instr::{Instr, PrintItem};
 pub use module::{Code, Gives, Module, Ty};
 pub use reading::decode;
-pub use text::Text;
+pub use cal_terms::Text;
 pub use writing::encode;
 
 #[cfg(test)]

@@ -10,7 +10,7 @@ ghost use Rattle.bytecode.specs.declared.module.Module.{Module};
 use crate::fault::DecodeError;
 use crate::instr::{Instr, PrintItem};
 use crate::module::{Code, Gives, Module, Ty};
-use crate::text::Text;
+use cal_terms::Text;
 use sqlite_items::Items;
 use std::alloc::Global;
 
@@ -329,7 +329,7 @@ pub struct BlockForm;
 
 impl Form for BlockForm {
     ghost use Rattle.bytecode.specs.Reading as read;
-    ghost use Rattle.bytecode.specs.declared.module.Gives.TheVariants.{Nothing};
+    ghost use Rattle.cal_terms.specs.declared.types.Gives.TheVariants.{Nothing};
 
     type Item = Code;
 

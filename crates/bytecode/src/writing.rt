@@ -9,8 +9,8 @@ use crate::module::{Code, Gives, Module, Ty};
 use crate::reading::{
     BlockForm, FunctionForm, InitialForm, InstrForm, KindForm, NumberForm, PrintItemForm, TextForm,
 };
-use crate::text::Text;
-use cal_base::NoMemory;
+use cal_terms::Text;
+use cal_terms::NoMemory;
 use std::alloc::Global;
 
 /// A number in at most this many bytes.

@@ -1,8 +1,8 @@
 -- Shared memory.
 use Rattle.std.specs.Prelude.{ℕ, zero, suc, Bool, true, false, List, [], ◌∷◌, ℤ, pos, slice_get, map}
 use Rattle.std.specs.Option.{option_map_or}
-use Rattle.cal_base.specs.declared.step.WordKind.{WordKind}
-use Rattle.cal_base.specs.declared.step.WordKind.TheVariants.{Ordinary, Tally}
+use Rattle.cal_terms.specs.declared.kinds.WordKind.{WordKind}
+use Rattle.cal_terms.specs.declared.kinds.WordKind.TheVariants.{Ordinary, Tally}
 pub use Rattle.cal_base.specs.declared.step.Word.{Word}
 
 -- the words, by their addresses from 0

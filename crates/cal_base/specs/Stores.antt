@@ -5,8 +5,8 @@ use Rattle.std.specs.FinMap.{get, insert, empty}
 use Rattle.cal_base.specs.declared.ends.Cause.{Cause}
 use Rattle.cal_base.specs.declared.ends.Cause.TheVariants.{Overflow}
 use Rattle.cal_base.specs.declared.ends.Overflow.{Overflow as OverflowMet}
-use Rattle.cal_base.specs.declared.step.WordKind.{WordKind}
-use Rattle.cal_base.specs.declared.step.WordKind.TheVariants.{Ordinary, Tally}
+use Rattle.cal_terms.specs.declared.kinds.WordKind.{WordKind}
+use Rattle.cal_terms.specs.declared.kinds.WordKind.TheVariants.{Ordinary, Tally}
 use Rattle.cal_base.specs.Arithmetic.{checked}
 use Rattle.cal_base.specs.Memory.{Memory, kind_at, value_at, with_value}
 use Rattle.cal_base.specs.Updates.{Written}

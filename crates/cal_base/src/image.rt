@@ -5,16 +5,13 @@ ghost use Rattle.std.specs.List.Sorted.{IsStrictlyIncreasing};
 ghost use Rattle.cal_base.specs.Memory.{memory_of, kind_at, value_at, with_value};
 ghost use Rattle.cal_base.specs.Pages.{first_memory, page_count, Paged, page_size, page_words, page_of, version_of, next_version, IsLater};
 
-use crate::NoMemory;
-use crate::step::WordKind;
+use cal_terms::limits::MOST_WORDS;
+use cal_terms::{NoMemory, WordKind};
 use std::alloc::Global;
 use std::marker::Model;
 
 /// How many words a page has.
 pub const PAGE: u32 = 64;
-
-/// How many words an image has at most.
-pub const MOST_WORDS: u32 = 262_144;
 
 /// A memory of 64-bit words, in pages that have versions.
 #[derive(Drop)]

@@ -18,15 +18,17 @@ mod whole;
 pub mod words;
 
 pub use answer::Answer;
+pub use cal_terms::limits::MOST_WORDS;
+pub use cal_terms::{NoMemory, WordKind};
 pub use ends::{Cause, Overflow, RoutineEnd, RunEnd, StepFault};
 pub use host::{HostFiles, HostSink};
-pub use image::{Image, MOST_WORDS, PAGE};
+pub use image::{Image, PAGE};
 pub use job::JobName;
 pub use memory_files::MemFiles;
 pub use memory_sink::MemSink;
-pub use outside::{Failed, Files, Gate, LoadError, NoMemory, OpenGate, Point, Sink};
+pub use outside::{Failed, Files, Gate, LoadError, OpenGate, Point, Sink};
 pub use step::{
-    CALLER, Claimed, Entry, Verdict, Word, WordKind, WorkerTally, arrival_bound, claim_bound,
+    CALLER, Claimed, Entry, Verdict, Word, WorkerTally, arrival_bound, claim_bound,
 };
 pub use update::{KeptUpdate, UpdateWords};
 pub use value::{Store, Val};

@@ -3,6 +3,8 @@
 ghost use Rattle.std.specs.Prelude.{◌≡◌, ◌≤◌};
 ghost use Rattle.cal_base.specs.Claims.{claim_bound, arrival_bound};
 
+use cal_terms::WordKind;
+
 /// The number under which the caller claims; workers are numbered below it.
 pub const CALLER: u8 = 32;
 
@@ -20,15 +22,6 @@ pub fn arrival_bound(n: u32) -> u32
     ensures { result ≡ arrival_bound n }
 {
     2 * claim_bound(n) + 32
-}
-
-/// How the writes of several routines to one word meet.
-#[derive(Clone, Copy, Debug, PartialEq, Eq)]
-pub enum WordKind {
-    /// One routine writes it at most; two that do are in conflict.
-    Ordinary,
-    /// Routines only add to it, and all their sums count.
-    Tally,
 }
 
 /// A word of shared memory.

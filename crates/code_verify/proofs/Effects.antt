@@ -2,7 +2,7 @@
 use Rattle.std.proofs.Common.{◌≡◌, ℕ, suc, ◌+◌, ◌-◌, ◌<◌, List, [], ◌∷◌, ◌++◌, Option, Some, None, refl, sym, ap, ◌∙◌, append_assoc, arith}
 use Rattle.std.proofs.lemmas.List.{append-nil}
 use Rattle.bytecode.specs.declared.instr.PrintItem.{PrintItem}
-use Rattle.bytecode.specs.declared.module.Ty.TheVariants as ty
+use Rattle.cal_terms.specs.declared.types.Ty.TheVariants as ty
 use Rattle.code_verify.specs.Kinds.{Kinds, below, item_kinds, items_kinds, ints}
 use Rattle.code_verify.specs.Walk.{◌>>=◌}
 

@@ -1,7 +1,7 @@
 -- What the verifier tests are the rules.
 use Rattle.std.proofs.Common.{◌≡◌, ℕ, zero, suc, Bool, List, [], ◌∷◌, length, Some, Result, Ok, Err, refl, sym, arith}
 use Rattle.std.specs.Prelude.{slice_get, IsTrue, IsSome, IfOk, ◌↔◌}
-use Rattle.cal_base.specs.declared.outside.NoMemory.{NoMemory}
+use Rattle.cal_terms.specs.declared.want.NoMemory.{NoMemory}
 use Rattle.bytecode.specs.declared.instr.Instr.TheVariants as i
 use Rattle.bytecode.specs.declared.module.Code.{Code}
 use Rattle.bytecode.specs.declared.module.Module.{Module}

@@ -5,8 +5,8 @@ use Rattle.bytecode.specs.declared.instr.PrintItem.{PrintItem}
 use Rattle.bytecode.specs.declared.instr.PrintItem.TheVariants as item
 use Rattle.bytecode.specs.declared.instr.Instr.{Instr}
 use Rattle.bytecode.specs.declared.instr.Instr.TheVariants as i
-use Rattle.bytecode.specs.declared.module.Ty.{Ty}
-use Rattle.bytecode.specs.declared.module.Ty.TheVariants.{Int}
+use Rattle.cal_terms.specs.declared.types.Ty.{Ty}
+use Rattle.cal_terms.specs.declared.types.Ty.TheVariants.{Int}
 use Rattle.bytecode.specs.declared.module.Code.{Code}
 use Rattle.bytecode.specs.declared.module.Module.{Module}
 use Rattle.bytecode.specs.Spelling.{HasSpelling}

@@ -2,8 +2,8 @@
 -- For the proof of the body: no public clause cites this.
 use Rattle.std.specs.Prelude.{◌≡◌, ℕ, ◌+◌, ◌<◌, ◌≤◌, ◌↔◌, true, Bool, List, ◌∷◌, length, Some, slice_get}
 use Rattle.std.specs.List.{AllByRecursion, Contains}
-use Rattle.bytecode.specs.declared.module.Ty.{Ty}
-use Rattle.bytecode.specs.declared.module.Ty.TheVariants.{Int}
+use Rattle.cal_terms.specs.declared.types.Ty.{Ty}
+use Rattle.cal_terms.specs.declared.types.Ty.TheVariants.{Int}
 use Rattle.bytecode.specs.Spelling.{HasSpelling}
 use Rattle.bytecode.specs.declared.instr.Instr.{Instr}
 use Rattle.bytecode.specs.declared.instr.Instr.TheVariants as i

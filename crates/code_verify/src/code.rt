@@ -9,7 +9,7 @@ use crate::standing::instructions_fit;
 use crate::uses::some_uses;
 use crate::walk::kinds_fit;
 use bytecode::{Code, Module, Ty};
-use cal_base::NoMemory;
+use cal_terms::NoMemory;
 use sqlite_items::Items;
 use std::alloc::Global;
 

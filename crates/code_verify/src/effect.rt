@@ -7,7 +7,7 @@ ghost use Rattle.code_verify.specs.Walk.{Changes};
 
 use crate::kinds::Kinds;
 use bytecode::{Code, Gives, Instr, Module, PrintItem, Ty};
-use cal_base::NoMemory;
+use cal_terms::NoMemory;
 
 /// Takes this kind from the top, if it is there.
 fn take_kind(kinds: &mut Kinds, kind: Ty) -> bool

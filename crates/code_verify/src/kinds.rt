@@ -5,7 +5,7 @@ ghost use Rattle.code_verify.specs.Kinds as kinds;
 ghost use Rattle.code_verify.specs.Walk.{Changes, same_kinds};
 
 use bytecode::{Code, Gives, PrintItem, Ty};
-use cal_base::NoMemory;
+use cal_terms::NoMemory;
 use std::alloc::Global;
 use std::marker::Model;
 
@@ -17,7 +17,7 @@ pub struct Kinds {
 
 impl Model for Kinds {
     ghost use Rattle.std.specs.Prelude.{List, reverse};
-    ghost use Rattle.bytecode.specs.declared.module.Ty.{Ty};
+    ghost use Rattle.cal_terms.specs.declared.types.Ty.{Ty};
 
     ghost Value = { List Ty };
 

@@ -6,7 +6,7 @@ ghost use Rattle.code_verify.specs.Tests.{UsesBy, SomeUses, CallBackwards, Tells
 
 use crate::tallies::is_tally;
 use bytecode::{Code, Instr, Module};
-use cal_base::NoMemory;
+use cal_terms::NoMemory;
 use sqlite_items::Items;
 use std::alloc::Global;
 

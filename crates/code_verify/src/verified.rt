@@ -3,7 +3,7 @@
 ghost use Rattle.code_verify.specs.declared.verified.VerifyError.TheVariants.{NoMemory as memory_wanted};
 
 use bytecode::Module;
-use cal_base::NoMemory;
+use cal_terms::NoMemory;
 use std::marker::Model;
 
 /// Why a module is not verified.

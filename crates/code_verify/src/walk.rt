@@ -8,7 +8,7 @@ ghost use Rattle.code_verify.specs.Walk.{Changes};
 use crate::effect::after;
 use crate::kinds::Kinds;
 use bytecode::{Code, Instr, Module};
-use cal_base::NoMemory;
+use cal_terms::NoMemory;
 use sqlite_items::Items;
 use std::alloc::Global;
 

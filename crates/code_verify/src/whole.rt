@@ -12,7 +12,7 @@ use crate::owner::Owner;
 use crate::uses::uses_of;
 use crate::verified::{Verified, VerifyError};
 use bytecode::{Module, has_spelling};
-use cal_base::NoMemory;
+use cal_terms::NoMemory;
 use sqlite_items::Items;
 use std::alloc::Global;
 

@@ -8,8 +8,8 @@ use Rattle.csl_tree.specs.declared.program.Form.TheVariants as form
 use Rattle.csl_tree.specs.declared.program.Form.TheBlock.{hidden-the_row-Stmt-1}
 use Rattle.bytecode.specs.declared.instr.Instr.{Instr}
 use Rattle.bytecode.specs.declared.instr.Instr.TheVariants as i
-use Rattle.bytecode.specs.declared.module.Ty.TheVariants as ty
-use Rattle.bytecode.specs.declared.module.Gives.TheVariants as gives
+use Rattle.cal_terms.specs.declared.types.Ty.TheVariants as ty
+use Rattle.cal_terms.specs.declared.types.Gives.TheVariants as gives
 use Rattle.compiled_code.specs.Slots.{Slots, kind_of}
 use Rattle.compiled_code.specs.Places.{row_size}
 use Rattle.compiled_code.specs.Statements.{row_code}

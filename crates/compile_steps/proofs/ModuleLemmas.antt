@@ -19,12 +19,12 @@ use Rattle.compiled_code.proofs.Meaning.{means_the_same}
 use Rattle.type_check.specs.Faults.{IsAccepted}
 use Rattle.accepted_code.proofs.Accepted.{accepted_shape}
 use Rattle.type_check.proofs.ExpressionLemmas.{next_item}
-use Rattle.verified_code.specs.Laws.{HasBytes}
-use Rattle.verified_code.proofs.Verified.{is_verified}
-use Rattle.verified_code.proofs.Named.{named_is}
-use Rattle.verified_code.proofs.Parts.{spelled_program}
-use Rattle.verified_code.proofs.SharedWords.{shared_means}
-use Rattle.verified_code.proofs.Bodies.{few_params}
+use Rattle.accepted_code.specs.Laws.{HasBytes}
+use Rattle.accepted_code.proofs.Verified.{is_verified}
+use Rattle.accepted_code.proofs.Named.{named_is}
+use Rattle.accepted_code.proofs.Parts.{spelled_program}
+use Rattle.accepted_code.proofs.SharedWords.{shared_means}
+use Rattle.accepted_code.proofs.Bodies.{few_params}
 use Rattle.compile_steps.specs.Lists.{texts_of, steps_of, StatementsAre}
 use Rattle.compile_steps.proofs.Bridges.{texts_row, steps_row}
 use Rattle.compile_steps.proofs.BodyLemmas.{body_shape}

@@ -4,14 +4,14 @@ use Rattle.std.specs.Prelude.{slice_get, unwrap_or}
 use Rattle.std.specs.Ordering.{int_eq}
 use Rattle.std.proofs.lemmas.List.{drop_all}
 use Rattle.std.proofs.lemmas.Option.{slice_get-get_or}
-use Rattle.cal_base.specs.declared.step.WordKind.{WordKind}
-use Rattle.cal_base.specs.declared.step.WordKind.TheVariants.{Ordinary, Tally}
+use Rattle.cal_terms.specs.declared.kinds.WordKind.{WordKind}
+use Rattle.cal_terms.specs.declared.kinds.WordKind.TheVariants.{Ordinary, Tally}
 use Rattle.cal_base.specs.Memory.{Memory, memory_of}
 use Rattle.csl_tree.specs.declared.program.Shared.{Shared}
 use Rattle.csl_tree.specs.declared.program.Valued.{Valued}
 use Rattle.csl_meaning.specs.Layout.{word_count, words_in, first_words, first_memory}
 use Rattle.compiled_code.specs.Modules.{with_tally, tallies_from, initial_from}
-use Rattle.verified_code.proofs.SharedWords.{length_words}
+use Rattle.accepted_code.proofs.SharedWords.{length_words}
 
 -- ---- two memories, one behind the other
 

@@ -12,7 +12,7 @@ use Rattle.csl_tree.specs.declared.program.RoutineBlock.{RoutineBlock, out-Routi
 use Rattle.csl_meaning.specs.Layout.{Text}
 use Rattle.bytecode.specs.declared.instr.Instr.{Instr}
 use Rattle.bytecode.specs.declared.instr.Instr.TheVariants as i
-use Rattle.bytecode.specs.declared.module.Ty.{Ty}
+use Rattle.cal_terms.specs.declared.types.Ty.{Ty}
 use Rattle.compiled_code.specs.Slots.{Slots, slot_of}
 use Rattle.compiled_code.specs.Sizes.{size_of, boxed_size, kinds_in, texts_in, steps_in}
 use Rattle.compiled_code.specs.Places.{slots_after, add_size, form_size}

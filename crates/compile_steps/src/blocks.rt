@@ -9,7 +9,7 @@ ghost use Rattle.compile_steps.specs.Lists.{steps_of, steps_of_arms, StatementsA
 use crate::bodies::block_code;
 use crate::names::Names;
 use bytecode::Code;
-use cal_base::NoMemory;
+use cal_terms::NoMemory;
 use csl_tree::program::{Arm, Form, RoutineBlock, Stmt};
 use sqlite_items::Items;
 use std::alloc::Global;

@@ -13,7 +13,7 @@ use crate::sizes::loop_sizes;
 use crate::statements::push_block;
 use crate::writer::Writer;
 use bytecode::{Code, Gives, Instr, Ty};
-use cal_base::NoMemory;
+use cal_terms::NoMemory;
 use csl_tree::program as tree;
 use csl_tree::program::{Function, Param, RoutineBlock, Stmt};
 use sqlite_items::Items;

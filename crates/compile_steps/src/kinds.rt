@@ -6,7 +6,7 @@ ghost use Rattle.compile_steps.specs.Lists.{kinds_of, kinds_of_arms};
 
 use crate::scope::kind_of;
 use bytecode::Ty;
-use cal_base::NoMemory;
+use cal_terms::NoMemory;
 use csl_tree::program::{Arm, Form, Stmt};
 use sqlite_items::Items;
 

@@ -6,7 +6,7 @@ ghost use Rattle.type_check.specs.Faults.{IsAccepted};
 ghost use Rattle.csl_meaning.specs.Meaning.{meaning};
 ghost use Rattle.machine_meaning.specs.Meaning.{machine_meaning};
 ghost use Rattle.compiled_code.specs.Modules as modules;
-ghost use Rattle.verified_code.specs.Laws.{HasBytes};
+ghost use Rattle.accepted_code.specs.Laws.{HasBytes};
 
 use crate::blocks::push_blocks;
 use crate::bodies::{function_code, main_code};
@@ -14,7 +14,7 @@ use crate::names::Names;
 use crate::texts::{hold_bytes, push_texts};
 use crate::words::push_words;
 use bytecode::{Code, Module};
-use cal_base::NoMemory;
+use cal_terms::NoMemory;
 use code_verify::{Verified, VerifyError, verify};
 use csl_tree::program::{Function, Program};
 use sqlite_items::Items;

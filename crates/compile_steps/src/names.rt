@@ -7,7 +7,7 @@ ghost use Rattle.csl_meaning.specs.Layout as layout;
 ghost use Rattle.compile_steps.specs.Areas.{area_among};
 
 use crate::writer::{length_of, sum};
-use cal_base::NoMemory;
+use cal_terms::NoMemory;
 use csl_meaning::Area;
 use csl_tree::name::Text;
 use csl_tree::program::{ArraySize, Gives, Program};

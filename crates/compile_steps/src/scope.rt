@@ -4,7 +4,7 @@ ghost use Rattle.std.specs.Prelude.{◌≡◌};
 ghost use Rattle.compiled_code.specs.Slots.{kind_of as kind_of_type};
 
 use bytecode::Ty;
-use cal_base::NoMemory;
+use cal_terms::NoMemory;
 use csl_tree::name::Text;
 use csl_tree::program as tree;
 use std::alloc::Global;

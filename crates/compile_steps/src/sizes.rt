@@ -9,7 +9,7 @@ ghost use Rattle.compile_steps.specs.Lists.{adding_size, sizes_of, statements_si
 use crate::names::Names;
 use crate::scope::{Scope, kind_of};
 use crate::writer::sum;
-use cal_base::NoMemory;
+use cal_terms::NoMemory;
 use csl_tree::program::{
     Arm, BinaryOp, Call, Expr, Form, Gives, Item, Node, Place, RoutineBlock, Stmt,
 };

@@ -14,7 +14,7 @@ use crate::sizes::{loop_sizes, size_here};
 use crate::values::{printed_items, push_call, push_items, push_value, push_widths};
 use crate::writer::{Writer, length_of, sum};
 use bytecode::Instr;
-use cal_base::NoMemory;
+use cal_terms::NoMemory;
 use csl_tree::name::Text;
 use csl_tree::program::{Arm, Call, Expr, Form, Gives, Item, Place, RoutineBlock, Stmt, Ty};
 use sqlite_items::Items;

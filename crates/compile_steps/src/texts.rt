@@ -7,7 +7,7 @@ ghost use Rattle.bytecode.specs.Spelling.{FitsByte};
 ghost use Rattle.compile_steps.specs.Lists.{texts_of, texts_of_arms};
 
 use bytecode::Text;
-use cal_base::NoMemory;
+use cal_terms::NoMemory;
 use csl_tree::program::{Arm, Form, Item, Stmt};
 use sqlite_items::Items;
 use std::alloc::Global;

@@ -15,7 +15,7 @@ use crate::scope::Scope;
 use crate::sizes::value_size;
 use crate::writer::{length_of, sum};
 use bytecode::{Instr, PrintItem, Ty};
-use cal_base::NoMemory;
+use cal_terms::NoMemory;
 use csl_meaning::Area;
 use csl_tree::name::Text;
 use csl_tree::program::{BinaryOp, Call, Expr, Gives, Item, Node, Place, RoutineBlock, UnaryOp};

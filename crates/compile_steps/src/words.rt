@@ -7,7 +7,7 @@ ghost use Rattle.compiled_code.specs.Modules.{tallies_from, initial_from};
 
 use crate::names::items_in;
 use crate::writer::{length_of, sum};
-use cal_base::{NoMemory, WordKind};
+use cal_terms::{NoMemory, WordKind};
 use csl_tree::program::Shared;
 use sqlite_items::Items;
 

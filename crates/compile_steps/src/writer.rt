@@ -4,7 +4,7 @@ ghost use Rattle.std.specs.Prelude.{◌≡◌, ◌+◌, ◌++◌, ◌∷◌, [],
 
 use crate::scope::Scope;
 use bytecode::Instr;
-use cal_base::NoMemory;
+use cal_terms::NoMemory;
 use sqlite_items::Items;
 
 /// The code of a body so far, its locals, and the numbers of the next text and of the next routine block of main.

@@ -13,8 +13,8 @@ use Rattle.csl_tree.specs.declared.program.Param.{Param}
 use Rattle.csl_tree.specs.declared.program.Stmt.{Stmt}
 use Rattle.csl_tree.specs.declared.program.Item.{Item}
 use Rattle.csl_tree.specs.declared.program.RoutineBlock.{RoutineBlock}
-use Rattle.csl_tree.specs.declared.program.Gives.{Gives as Result'}
-use Rattle.csl_tree.specs.declared.program.Gives.TheVariants as result
+use Rattle.cal_terms.specs.declared.types.Gives.{Gives as Result'}
+use Rattle.cal_terms.specs.declared.types.Gives.TheVariants as result
 use Rattle.csl_tree.specs.declared.program.Form.TheVariants as variant
 use Rattle.csl_tree.specs.declared.program.Form.TheBlock.{shape-the_row-Stmt-1, hidden-the_row-Stmt-1}
 use Rattle.csl_meaning.specs.declared.state.World.{World}
@@ -28,7 +28,7 @@ use Rattle.csl_meaning.proofs.Parts.{of_nowhere, of_calls_to}
 use Rattle.csl_meaning.proofs.Counts.{Counts, counts}
 use Rattle.bytecode.specs.declared.instr.Instr.{Instr}
 use Rattle.bytecode.specs.declared.instr.Instr.TheVariants as i
-use Rattle.bytecode.specs.declared.module.Ty.{Ty}
+use Rattle.cal_terms.specs.declared.types.Ty.{Ty}
 use Rattle.bytecode.specs.declared.module.Code.{Code}
 use Rattle.code_verify.specs.Rules.{IsVerified, IsNotMains}
 use Rattle.machine_meaning.specs.Machine as machine

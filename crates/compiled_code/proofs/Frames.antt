@@ -5,7 +5,7 @@ use Rattle.std.specs.Str.{bytes_eq}
 use Rattle.cal_base.specs.declared.value.Val.{Val}
 use Rattle.csl_meaning.specs.Layout.{Text}
 use Rattle.csl_meaning.specs.Locals.{Locals, declare, local_value, set_local}
-use Rattle.bytecode.specs.declared.module.Ty.{Ty}
+use Rattle.cal_terms.specs.declared.types.Ty.{Ty}
 use Rattle.compiled_code.specs.Slots.{Slot, Slots, slot_of, with_slot}
 
 -- each visible local has its value in its slot

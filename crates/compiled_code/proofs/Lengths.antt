@@ -3,8 +3,8 @@ use Rattle.std.proofs.Common.{◌≡◌, ℕ, ◌+◌, List, [], ◌∷◌, ◌+
 use Rattle.csl_tree.specs.declared.program.Program.{Program}
 use Rattle.csl_tree.specs.declared.program.BinaryOp.{BinaryOp}
 use Rattle.csl_tree.specs.declared.program.BinaryOp.TheVariants.{And, Or}
-use Rattle.csl_tree.specs.declared.program.Gives.{Gives}
-use Rattle.csl_tree.specs.declared.program.Gives.TheVariants as gives
+use Rattle.cal_terms.specs.declared.types.Gives.{Gives}
+use Rattle.cal_terms.specs.declared.types.Gives.TheVariants as gives
 use Rattle.csl_tree.specs.declared.program.Expr.{Expr}
 use Rattle.csl_tree.specs.declared.program.Node.{Node, Number, Truth, Read, Unary', Binary', Paren', Row_of-Expr, end_of-Expr, more_of-Expr}
 use Rattle.csl_tree.specs.declared.program.Node as node

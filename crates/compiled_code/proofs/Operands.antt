@@ -13,7 +13,7 @@ use Rattle.csl_meaning.specs.declared.state.Area.{Area}
 use Rattle.csl_meaning.specs.Layout.{Text}
 use Rattle.csl_meaning.specs.Value.{item_at}
 use Rattle.csl_meaning.specs.Effect.{function_named}
-use Rattle.bytecode.specs.declared.module.Ty.{Ty}
+use Rattle.cal_terms.specs.declared.types.Ty.{Ty}
 use Rattle.code_verify.specs.Kinds.{same_kind}
 use Rattle.machine_meaning.specs.Machine as machine
 use Rattle.machine_meaning.specs.Machine.{◌>>=◌, kind_of, split}

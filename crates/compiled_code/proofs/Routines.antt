@@ -23,7 +23,7 @@ use Rattle.csl_meaning.proofs.Parts.{of_nowhere, of_calls_to}
 use Rattle.csl_meaning.proofs.Counts.{Counts, counts}
 use Rattle.bytecode.specs.declared.instr.Instr.{Instr}
 use Rattle.bytecode.specs.declared.instr.Instr.TheVariants as i
-use Rattle.bytecode.specs.declared.module.Gives.TheVariants as gives
+use Rattle.cal_terms.specs.declared.types.Gives.TheVariants as gives
 use Rattle.code_verify.specs.Rules.{IsVerified, IsNotMains}
 use Rattle.machine_meaning.specs.Machine as machine
 use Rattle.machine_meaning.specs.Machine.{State, Ends, first_value, leaves, next}

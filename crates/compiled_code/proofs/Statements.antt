@@ -7,8 +7,8 @@ use Rattle.cal_base.specs.declared.value.Val.{Val}
 use Rattle.cal_base.specs.declared.value.Val.TheVariants as val
 use Rattle.cal_base.specs.declared.value.Store.TheVariants.{Main}
 use Rattle.csl_tree.specs.declared.program.Program.{Program}
-use Rattle.csl_tree.specs.declared.program.Gives.{Gives as Result'}
-use Rattle.csl_tree.specs.declared.program.Gives.TheVariants as gives
+use Rattle.cal_terms.specs.declared.types.Gives.{Gives as Result'}
+use Rattle.cal_terms.specs.declared.types.Gives.TheVariants as gives
 use Rattle.csl_tree.specs.declared.program.Call.{Call' as call_of}
 use Rattle.csl_tree.specs.declared.program.Item.{Item}
 use Rattle.csl_tree.specs.declared.program.Arm.{Arm'}
@@ -27,7 +27,7 @@ use Rattle.csl_meaning.specs.Effect.{Went, MainOnly, Printing, Stepping, go_on, 
 use Rattle.csl_meaning.proofs.Parts.{Always, of_expr, of_in_order, of_scoped, of_calls_to}
 use Rattle.csl_meaning.proofs.Counts.{Counts, counts}
 use Rattle.bytecode.specs.declared.instr.Instr.TheVariants as i
-use Rattle.bytecode.specs.declared.module.Ty.{Ty}
+use Rattle.cal_terms.specs.declared.types.Ty.{Ty}
 use Rattle.bytecode.specs.declared.module.Code.{Code}
 use Rattle.code_verify.specs.Rules.{IsVerified}
 use Rattle.machine_meaning.specs.Machine.{Call, State, next}

@@ -10,8 +10,8 @@ use Rattle.cal_base.specs.Arithmetic.{checked, quotient, remainder}
 use Rattle.cal_base.specs.Stores.{memory_in, read_word}
 use Rattle.csl_tree.specs.declared.program.Program.{Program}
 use Rattle.csl_tree.specs.declared.program.Function.{Function}
-use Rattle.csl_tree.specs.declared.program.Gives.{Gives as Result'}
-use Rattle.csl_tree.specs.declared.program.Gives.TheVariants as gives
+use Rattle.cal_terms.specs.declared.types.Gives.{Gives as Result'}
+use Rattle.cal_terms.specs.declared.types.Gives.TheVariants as gives
 use Rattle.csl_tree.specs.declared.program.UnaryOp.{UnaryOp}
 use Rattle.csl_tree.specs.declared.program.UnaryOp.TheVariants.{Neg, Not}
 use Rattle.csl_tree.specs.declared.program.BinaryOp.{BinaryOp}

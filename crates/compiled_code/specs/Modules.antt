@@ -1,22 +1,22 @@
 -- The code of functions, of routine blocks and of main, and the module of a program.
 use Rattle.std.specs.Prelude.{ℕ, suc, ℤ, pos, if◌then◌else◌, List, [], ◌∷◌, ◌++◌, length, map}
 use Rattle.std.specs.Ordering.{int_eq}
-use Rattle.cal_base.specs.declared.step.WordKind.{WordKind}
-use Rattle.cal_base.specs.declared.step.WordKind.TheVariants.{Ordinary, Tally}
+use Rattle.cal_terms.specs.declared.kinds.WordKind.{WordKind}
+use Rattle.cal_terms.specs.declared.kinds.WordKind.TheVariants.{Ordinary, Tally}
 use Rattle.cal_base.specs.Memory.{Memory}
 use Rattle.csl_tree.specs.declared.program.Program.{Program}
 use Rattle.csl_tree.specs.declared.program.Function.{Function}
 use Rattle.csl_tree.specs.declared.program.Param.{Param}
-use Rattle.csl_tree.specs.declared.program.Gives.{Gives as Result}
-use Rattle.csl_tree.specs.declared.program.Gives.TheVariants as result
+use Rattle.cal_terms.specs.declared.types.Gives.{Gives as Result}
+use Rattle.cal_terms.specs.declared.types.Gives.TheVariants as result
 use Rattle.csl_tree.specs.declared.program.Form.TheVariants as form
 use Rattle.csl_tree.specs.declared.program.RoutineBlock.{RoutineBlock, RoutineBlock'}
 use Rattle.csl_meaning.specs.Layout.{first_memory}
 use Rattle.bytecode.specs.declared.instr.Instr.{Instr}
 use Rattle.bytecode.specs.declared.instr.Instr.TheVariants as i
-use Rattle.bytecode.specs.declared.module.Ty.TheVariants as ty
-use Rattle.bytecode.specs.declared.module.Gives.{Gives}
-use Rattle.bytecode.specs.declared.module.Gives.TheVariants as gives
+use Rattle.cal_terms.specs.declared.types.Ty.TheVariants as ty
+use Rattle.cal_terms.specs.declared.types.Gives.{Gives}
+use Rattle.cal_terms.specs.declared.types.Gives.TheVariants as gives
 use Rattle.bytecode.specs.declared.module.Code.{Code}
 use Rattle.bytecode.specs.declared.module.Module.{Module}
 use Rattle.compiled_code.specs.Slots.{Slots, with_slot, kind_of}

@@ -3,8 +3,8 @@ use Rattle.std.specs.Prelude.{◌≡◌, pos, [], ◌∷◌, codes}
 use Rattle.csl_meaning.specs.Rows as rows
 use Rattle.bytecode.specs.declared.instr.PrintItem.TheVariants as item
 use Rattle.bytecode.specs.declared.instr.Instr.TheVariants as i
-use Rattle.bytecode.specs.declared.module.Ty.TheVariants as ty
-use Rattle.bytecode.specs.declared.module.Gives.TheVariants as gives
+use Rattle.cal_terms.specs.declared.types.Ty.TheVariants as ty
+use Rattle.cal_terms.specs.declared.types.Gives.TheVariants as gives
 use Rattle.compiled_code.specs.Modules.{main_code, module_of}
 
 -- `print(z != 0 && 1 / z > 0)`: the right operand is skipped where the left one is false

@@ -7,8 +7,8 @@ use Rattle.csl_tree.specs.declared.program.Node.{Node, Number, Truth, Read, Call
 use Rattle.csl_tree.specs.declared.program.Place.{Place, Place', None', Some'}
 use Rattle.csl_tree.specs.declared.program.Call.{Call, Call'}
 use Rattle.csl_tree.specs.declared.program.Function.{Function}
-use Rattle.csl_tree.specs.declared.program.Gives.{Gives}
-use Rattle.csl_tree.specs.declared.program.Gives.TheVariants as gives
+use Rattle.cal_terms.specs.declared.types.Gives.{Gives}
+use Rattle.cal_terms.specs.declared.types.Gives.TheVariants as gives
 use Rattle.csl_tree.specs.declared.program.Item.{Item}
 use Rattle.csl_tree.specs.declared.program.Item.TheVariants as item
 use Rattle.csl_tree.specs.declared.program.Arm.{Arm'}
@@ -17,7 +17,7 @@ use Rattle.csl_tree.specs.declared.program.Form.{Form, Declare, Set, AddTo, If',
 use Rattle.csl_tree.specs.declared.program.Form as form
 use Rattle.csl_meaning.specs.Layout.{Text}
 use Rattle.csl_meaning.specs.Effect.{blocks_in}
-use Rattle.bytecode.specs.declared.module.Ty.{Ty}
+use Rattle.cal_terms.specs.declared.types.Ty.{Ty}
 use Rattle.compiled_code.specs.Slots.{kind_of}
 
 -- ---- the instructions of an expression

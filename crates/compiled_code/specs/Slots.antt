@@ -1,11 +1,11 @@
 -- Where the locals of a body are kept: each declaration of the body has a slot of its own, in the order of declaration.
 use Rattle.std.specs.Prelude.{ℕ, if◌then◌else◌, List, [], ◌∷◌, ◌++◌, Option, Some, None}
 use Rattle.std.specs.Str.{bytes_eq}
-use Rattle.csl_tree.specs.declared.program.Ty.{Ty as Type'}
-use Rattle.csl_tree.specs.declared.program.Ty.TheVariants as type
+use Rattle.cal_terms.specs.declared.types.Ty.{Ty as Type'}
+use Rattle.cal_terms.specs.declared.types.Ty.TheVariants as type
 use Rattle.csl_meaning.specs.Layout.{Text}
-use Rattle.bytecode.specs.declared.module.Ty.{Ty}
-use Rattle.bytecode.specs.declared.module.Ty.TheVariants as ty
+use Rattle.cal_terms.specs.declared.types.Ty.{Ty}
+use Rattle.cal_terms.specs.declared.types.Ty.TheVariants as ty
 
 -- a visible local: its slot, and the kind of its value
 pub record Slot : Type 0 where

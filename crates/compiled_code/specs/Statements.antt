@@ -1,8 +1,8 @@
 -- The code of statements. A statement begins and ends without operands.
 use Rattle.std.specs.Prelude.{ℕ, ◌+◌, List, [], ◌∷◌, ◌++◌, length, Option, Some, None, unwrap_or}
 use Rattle.csl_tree.specs.declared.program.Program.{Program}
-use Rattle.csl_tree.specs.declared.program.Gives.{Gives}
-use Rattle.csl_tree.specs.declared.program.Gives.TheVariants as gives
+use Rattle.cal_terms.specs.declared.types.Gives.{Gives}
+use Rattle.cal_terms.specs.declared.types.Gives.TheVariants as gives
 use Rattle.csl_tree.specs.declared.program.Expr.{Expr}
 use Rattle.csl_tree.specs.declared.program.Place.{Place, Place', None', Some'}
 use Rattle.csl_tree.specs.declared.program.Call.{Call, Call'}
@@ -20,8 +20,8 @@ use Rattle.bytecode.specs.declared.instr.PrintItem.{PrintItem}
 use Rattle.bytecode.specs.declared.instr.PrintItem.TheVariants as printed
 use Rattle.bytecode.specs.declared.instr.Instr.{Instr}
 use Rattle.bytecode.specs.declared.instr.Instr.TheVariants as i
-use Rattle.bytecode.specs.declared.module.Ty.{Ty}
-use Rattle.bytecode.specs.declared.module.Ty.TheVariants as ty
+use Rattle.cal_terms.specs.declared.types.Ty.{Ty}
+use Rattle.cal_terms.specs.declared.types.Ty.TheVariants as ty
 use Rattle.compiled_code.specs.Slots.{Slot, Slots, slot_of}
 use Rattle.compiled_code.specs.Places.{slots_after, slots_after_row, form_size, row_size, arms_size}
 use Rattle.compiled_code.specs.Sizes.{size_of, boxed_size, given_by, kinds_in, kinds_in_row, kinds_in_arms, texts_in, texts_in_row, texts_in_arms, steps_in, steps_in_row, steps_in_arms}

@@ -8,8 +8,8 @@ use Rattle.csl_tree.specs.declared.token.Mark.{Mark}
 use Rattle.csl_tree.specs.declared.token.Mark.TheVariants as mark
 use Rattle.csl_tree.specs.declared.program.UnaryOp.{UnaryOp}
 use Rattle.csl_tree.specs.declared.program.UnaryOp.TheVariants as unary_op
-use Rattle.csl_tree.specs.declared.program.Ty.{Ty}
-use Rattle.csl_tree.specs.declared.program.Ty.TheVariants as ty
+use Rattle.cal_terms.specs.declared.types.Ty.{Ty}
+use Rattle.cal_terms.specs.declared.types.Ty.TheVariants as ty
 use Rattle.csl_tree.specs.declared.program.Valued.{Valued}
 use Rattle.csl_tree.specs.declared.program.Shared.{Shared}
 use Rattle.csl_tree.specs.declared.program.Param.{Param}

@@ -7,11 +7,11 @@ use Rattle.csl_tree.specs.declared.token.Keyword.{Keyword}
 use Rattle.csl_tree.specs.declared.token.Keyword.TheVariants as word
 use Rattle.csl_tree.specs.declared.token.Mark.{Mark}
 use Rattle.csl_tree.specs.declared.token.Mark.TheVariants as mark
-use Rattle.csl_tree.specs.declared.program.Ty.{Ty}
-use Rattle.csl_tree.specs.declared.program.Ty.TheVariants as ty
-use Rattle.csl_tree.specs.declared.program.Gives.{Gives}
-use Rattle.csl_tree.specs.declared.program.Gives.TheVariants as gives
-use Rattle.cal_base.specs.declared.step.WordKind.TheVariants as words
+use Rattle.cal_terms.specs.declared.types.Ty.{Ty}
+use Rattle.cal_terms.specs.declared.types.Ty.TheVariants as ty
+use Rattle.cal_terms.specs.declared.types.Gives.{Gives}
+use Rattle.cal_terms.specs.declared.types.Gives.TheVariants as gives
+use Rattle.cal_terms.specs.declared.kinds.WordKind.TheVariants as words
 use Rattle.csl_tree.specs.declared.program.Valued.{Valued}
 use Rattle.csl_tree.specs.declared.program.Shared.{Shared}
 use Rattle.csl_tree.specs.declared.program.Param.{Param}

@@ -7,7 +7,7 @@ ghost use Rattle.csl_lexer.specs.Steps.{Steps, IsOther};
 use crate::LexError;
 use crate::scan::{ByteClass, closing, is_blank, is_letter, run_length, value};
 use crate::spelling::{keyword, mark};
-use cal_base::NoMemory;
+use cal_terms::NoMemory;
 use csl_tree::name::{Name, Text};
 use csl_tree::token::TokenKind;
 use std::alloc::Global;

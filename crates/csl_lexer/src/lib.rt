@@ -7,7 +7,7 @@ ghost use Rattle.csl_lexer.specs.Tokens.{IsTokenList, IsFirstFault};
 ghost use Rattle.csl_lexer.specs.Laws.{ReadsOneWay, ListsEnd, PlacesAscend};
 
 use crate::item::item;
-use cal_base::NoMemory;
+use cal_terms::NoMemory;
 use csl_tree::token::{Token, TokenKind};
 use std::alloc::{AllocFailed, Global};
 

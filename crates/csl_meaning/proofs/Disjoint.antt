@@ -6,8 +6,8 @@ use Rattle.std.specs.List.{enumerate_from, position}
 use Rattle.std.specs.FinMap.{empty, insert, get, get-insert, get-empty}
 use Rattle.std.specs.Cmp.{nat_cmp_total, unsigned_tied}
 use Rattle.std.specs.Ordering.{nat_cmp}
-use Rattle.cal_base.specs.declared.step.WordKind.{WordKind}
-use Rattle.cal_base.specs.declared.step.WordKind.TheVariants.{Ordinary, Tally}
+use Rattle.cal_terms.specs.declared.kinds.WordKind.{WordKind}
+use Rattle.cal_terms.specs.declared.kinds.WordKind.TheVariants.{Ordinary, Tally}
 use Rattle.cal_base.specs.declared.answer.Answer.{Answer}
 use Rattle.cal_base.specs.declared.answer.Answer.TheVariants.{Update}
 use Rattle.cal_base.specs.Numbers.{least_below}

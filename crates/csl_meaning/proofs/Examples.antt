@@ -14,7 +14,7 @@ use Rattle.csl_tree.specs.declared.program.BinaryOp.TheVariants.{Div, Rem}
 use denote.Hole.Carrier.{hidden, roll}
 use Rattle.cal_base.specs.declared.ends.Cause.TheVariants.{Assertion, OutOfRange, FuelSpent}
 use Rattle.cal_base.specs.declared.ends.StepFault.TheVariants.{Trap, Conflict, Total}
-use Rattle.cal_base.specs.declared.step.WordKind.TheVariants.{Ordinary, Tally}
+use Rattle.cal_terms.specs.declared.kinds.WordKind.TheVariants.{Ordinary, Tally}
 use Rattle.cal_base.specs.Numbers.{least_below}
 use Rattle.cal_base.specs.Memory.{Memory}
 use Rattle.cal_base.specs.Claims.{meant}

@@ -14,7 +14,7 @@ use Rattle.csl_tree.specs.declared.program.RoutineBlock.{roll-RoutineBlock}
 use Rattle.csl_tree.specs.declared.program.Arm.{roll-Arm}
 use denote.Hole.Carrier.{hidden, roll}
 use Rattle.cal_base.specs.declared.answer.Answer.TheVariants.{Update}
-use Rattle.cal_base.specs.declared.step.WordKind.TheVariants.{Ordinary}
+use Rattle.cal_terms.specs.declared.kinds.WordKind.TheVariants.{Ordinary}
 use Rattle.cal_base.specs.declared.value.Store.{Store}
 use Rattle.cal_base.specs.declared.value.Store.TheVariants.{Routine}
 use Rattle.cal_base.specs.declared.value.Val.{Val}

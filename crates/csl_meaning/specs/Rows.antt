@@ -1,14 +1,14 @@
 -- Worked examples: small programs as trees, and what they write.
 use Rattle.std.specs.Prelude.{◌≡◌, ℕ, Bool, ℤ, pos, List, [], ◌∷◌, ◌++◌, Option, Some, None, true, false, map, codes}
 use Rattle.cal_base.specs.declared.ends.RunEnd.TheVariants.{Done}
-use Rattle.cal_base.specs.declared.step.WordKind.TheVariants.{Ordinary, Tally}
+use Rattle.cal_terms.specs.declared.kinds.WordKind.TheVariants.{Ordinary, Tally}
 use Rattle.cal_base.specs.Main.{Meaning}
 use Rattle.cal_base.specs.Text.{text_of, fault_line, line}
 use Rattle.csl_tree.specs.declared.name.Name.{Name}
 use Rattle.csl_tree.specs.declared.program.Program.{Program}
 use Rattle.csl_tree.specs.declared.program.Function.{Function}
-use Rattle.csl_tree.specs.declared.program.Gives.TheVariants as gives
-use Rattle.csl_tree.specs.declared.program.Ty.TheVariants as ty
+use Rattle.cal_terms.specs.declared.types.Gives.TheVariants as gives
+use Rattle.cal_terms.specs.declared.types.Ty.TheVariants as ty
 use Rattle.csl_tree.specs.declared.program.Expr.{Expr}
 use Rattle.csl_tree.specs.declared.program.Node.{Node}
 use Rattle.csl_tree.specs.declared.program.Node.TheVariants as node

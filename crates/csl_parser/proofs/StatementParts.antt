@@ -8,8 +8,8 @@ use Rattle.csl_tree.specs.declared.token.Keyword.{Keyword}
 use Rattle.csl_tree.specs.declared.token.Keyword.TheVariants as word
 use Rattle.csl_tree.specs.declared.token.Mark.{Mark}
 use Rattle.csl_tree.specs.declared.token.Mark.TheVariants as mark
-use Rattle.csl_tree.specs.declared.program.Ty.{Ty}
-use Rattle.csl_tree.specs.declared.program.Ty.TheVariants as ty
+use Rattle.cal_terms.specs.declared.types.Ty.{Ty}
+use Rattle.cal_terms.specs.declared.types.Ty.TheVariants as ty
 use Rattle.csl_tree.specs.declared.program.Expr.{Expr}
 use Rattle.csl_tree.specs.declared.program.Place.{Place}
 use Rattle.csl_tree.specs.declared.program.Item.{Item}

@@ -1,6 +1,6 @@
 -- The rules of declarations as the readers go through them: one part after another.
 use Rattle.std.specs.Prelude.{ℤ, Bool, true, false, List, [], ◌∷◌, Option, Some, None}
-use Rattle.cal_base.specs.declared.step.WordKind.TheVariants as words
+use Rattle.cal_terms.specs.declared.kinds.WordKind.TheVariants as words
 use Rattle.csl_tree.specs.declared.name.Name.{Name}
 use Rattle.csl_tree.specs.declared.token.Token.{Token}
 use Rattle.csl_tree.specs.declared.token.TokenKind.TheVariants as kind

@@ -13,7 +13,7 @@ use crate::tokens::{
     comma, copy_of, expect, expect_name, expect_number, expect_word, front, is_mark, is_word,
     natural, number,
 };
-use cal_base::WordKind;
+use cal_terms::WordKind;
 use csl_tree::name::Name;
 use csl_tree::program::{ArraySize, Shared, Valued};
 use csl_tree::token::{Keyword, Mark, Token};

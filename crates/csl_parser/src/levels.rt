@@ -5,7 +5,7 @@ ghost use Rattle.csl_grammar.specs.Levels.{outermost, behind, turned, turn_of_ma
 ghost use Rattle.csl_parser.specs.Program.{TellsDepth, IsLow};
 
 use crate::ParseError;
-use cal_base::NoMemory;
+use cal_terms::NoMemory;
 use csl_tree::token::{Keyword, Mark, Token, TokenKind};
 use std::alloc::Global;
 use std::marker::Model;

@@ -21,7 +21,7 @@ mod stmt;
 mod tests;
 mod tokens;
 
-use cal_base::NoMemory;
+use cal_terms::NoMemory;
 use csl_tree::program::Program;
 use csl_tree::token::Token;
 use std::alloc::{AllocError, AllocFailed, Global};

@@ -4,8 +4,8 @@ ghost use Rattle.std.specs.Prelude.{◌≡◌, ◌≢◌, ◌<◌, IfOk, MatchOp
 ghost use Rattle.csl_tree.specs.declared.token.TokenKind.TheVariants as kind;
 ghost use Rattle.csl_tree.specs.declared.token.Keyword.TheVariants as word;
 ghost use Rattle.csl_tree.specs.declared.token.Mark.TheVariants as mark;
-ghost use Rattle.csl_tree.specs.declared.program.Ty.{Ty};
-ghost use Rattle.csl_tree.specs.declared.program.Gives.{Gives};
+ghost use Rattle.cal_terms.specs.declared.types.Ty.{Ty};
+ghost use Rattle.cal_terms.specs.declared.types.Gives.{Gives};
 ghost use Rattle.csl_grammar.specs.Programs.{SpellsShared, SpellsParam, SpellsFunction, type_word, result_word};
 ghost use Rattle.csl_grammar.specs.Stops.{IsEnded};
 ghost use Rattle.csl_parser.specs.Reading.{Answers, ListUntil, Until, stops_anywhere};

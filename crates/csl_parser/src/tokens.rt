@@ -10,7 +10,7 @@ ghost use Rattle.csl_grammar.specs.Stops.{IsEnded, operator_of, BeginsOtherThan}
 ghost use Rattle.csl_parser.specs.Reading.{Answers, BeginsAs, IsToken, NameTok, SizeTok, stops_anywhere, at_mark, prefix_of, number_of, natural_of, truth_of};
 
 use crate::ParseError;
-use cal_base::NoMemory;
+use cal_terms::NoMemory;
 use csl_tree::name::{Name, Text};
 use csl_tree::program::{ArraySize, BinaryOp, UnaryOp};
 use csl_tree::token::{Keyword, Mark, Token, TokenKind};

@@ -1,7 +1,7 @@
 -- Declarations and programs with the tokens at other places.
 use Rattle.std.proofs.Common.{◌≡◌, ℕ, pos, List, [], Some, None, Bool, false, refl}
 use Rattle.std.specs.Prelude.{map, neg_ℤ}
-use Rattle.cal_base.specs.declared.step.WordKind.TheVariants as words
+use Rattle.cal_terms.specs.declared.kinds.WordKind.TheVariants as words
 use Rattle.csl_tree.specs.declared.token.Token.{Token}
 use Rattle.csl_tree.specs.declared.program.Valued.{Valued}
 use Rattle.csl_tree.specs.declared.program.Shared.{Shared}

@@ -1,10 +1,10 @@
 -- Worked examples: small programs as trees, and the lines of their canonical texts.
 use Rattle.std.specs.Prelude.{◌≡◌, ℕ, pos, negsuc, true, false, List, [], ◌∷◌, ◌++◌, Some, None, codes}
-use Rattle.cal_base.specs.declared.step.WordKind.TheVariants.{Ordinary}
+use Rattle.cal_terms.specs.declared.kinds.WordKind.TheVariants.{Ordinary}
 use Rattle.csl_tree.specs.declared.name.Name.{Name}
 use Rattle.csl_tree.specs.declared.program.Program.{Program}
 use Rattle.csl_tree.specs.declared.program.Shared.{Shared}
-use Rattle.csl_tree.specs.declared.program.Ty.TheVariants as ty
+use Rattle.cal_terms.specs.declared.types.Ty.TheVariants as ty
 use Rattle.csl_tree.specs.declared.program.Expr.{Expr}
 use Rattle.csl_tree.specs.declared.program.Node.{Node}
 use Rattle.csl_tree.specs.declared.program.Node.TheVariants as node

@@ -7,7 +7,7 @@ ghost use Rattle.csl_print.specs.TreeTokens.{signed_tokens, kind_tokens, size_to
 
 use crate::printer::Printer;
 use crate::stmt::{print_body, type_word};
-use cal_base::{NoMemory, WordKind};
+use cal_terms::{NoMemory, WordKind};
 use csl_tree::program::{ArraySize, Function, Gives, Param, Shared, Valued};
 use csl_tree::token::{Keyword, Mark};
 

@@ -6,7 +6,7 @@ ghost use Rattle.csl_print.specs.Layout.{adds_all};
 ghost use Rattle.csl_print.specs.TreeTokens.{expr_tokens, place_tokens, call_tokens, separated};
 
 use crate::printer::Printer;
-use cal_base::NoMemory;
+use cal_terms::NoMemory;
 use csl_tree::program::{BinaryOp, Call, Expr, Node, Place, UnaryOp};
 use csl_tree::token::{Keyword, Mark};
 

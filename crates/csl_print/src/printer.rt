@@ -7,7 +7,7 @@ ghost use Rattle.csl_print.specs.Canonical.{blanks};
 
 use crate::spelling::{mark_text, word_text};
 use crate::turn::{Gap, Turn, enclosed, gap_behind, nested, set_in, turn_of_mark, turn_of_word};
-use cal_base::NoMemory;
+use cal_terms::NoMemory;
 use csl_tree::name::Name;
 use csl_tree::token::{Keyword, Mark};
 use itoa::Buffer;

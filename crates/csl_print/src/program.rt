@@ -10,7 +10,7 @@ ghost use Rattle.csl_print.specs.TreeTokens.{each, shared_tokens, function_token
 use crate::decl::{print_function, print_shared};
 use crate::printer::Printer;
 use crate::stmt::print_body;
-use cal_base::NoMemory;
+use cal_terms::NoMemory;
 use csl_tree::program::{Function, Program, Shared};
 use csl_tree::token::{Keyword, Mark};
 use std::alloc::Global;

@@ -9,7 +9,7 @@ ghost use Rattle.csl_tree.specs.declared.token.Keyword.TheVariants as keyword;
 
 use crate::expr::{print_call, print_expr, print_place};
 use crate::printer::Printer;
-use cal_base::NoMemory;
+use cal_terms::NoMemory;
 use csl_tree::program::{Arm, Expr, Form, Item, RoutineBlock, Stmt, Ty};
 use csl_tree::token::{Keyword, Mark};
 

@@ -1,5 +1,5 @@
 use crate::program::print_text;
-use cal_base::WordKind;
+use cal_terms::WordKind;
 use csl_tree::name::{Name, Text};
 use csl_tree::program::{ArraySize, Expr, Form, Item, Node, Program, Shared, Stmt, Valued};
 use sqlite_items::{Boxed, Items};

@@ -1,23 +1,9 @@
 //! A program as a tree: what the source says, with the position of each part.
 
 use crate::name::Name;
-use cal_base::WordKind;
+use cal_terms::WordKind;
+pub use cal_terms::{Gives, Ty};
 use sqlite_items::{Boxed, Items};
-
-/// The type of a value.
-#[derive(Clone, Copy, PartialEq, Eq, Debug)]
-pub enum Ty {
-    Int,
-    Bool,
-}
-
-/// What a function gives back.
-#[derive(Clone, Copy, PartialEq, Eq, Debug)]
-pub enum Gives {
-    Nothing,
-    Int,
-    Bool,
-}
 
 /// A whole program: its shared declarations, its functions and the statements of main, each in the text's order.
 #[derive(Debug, Drop)]

@@ -4,7 +4,7 @@ use Rattle.std.specs.Prelude.{map, drop}
 use Rattle.std.specs.FinMap.{empty}
 use Rattle.cal_base.specs.Numbers.{least_below, lightest_below}
 use Rattle.cal_base.specs.After.{least_faulty, is_faulty, shared_word, after, fault_of, merged_memory}
-use Rattle.cal_base.specs.declared.step.WordKind.TheVariants.{Ordinary}
+use Rattle.cal_terms.specs.declared.kinds.WordKind.TheVariants.{Ordinary}
 use Rattle.cal_base.specs.declared.step.Entry.TheVariants.{Claim, Arrive}
 use Rattle.cal_base.specs.declared.step.TheConstants.{CALLER}
 use Rattle.cal_base.specs.declared.step.Verdict.TheVariants.{First, Again, Stale}

@@ -6,7 +6,7 @@ use Rattle.cal_base.specs.Main.{Line}
 use Rattle.bytecode.specs.declared.instr.PrintItem.TheVariants as item
 use Rattle.bytecode.specs.declared.instr.Instr.{Instr}
 use Rattle.bytecode.specs.declared.instr.Instr.TheVariants as i
-use Rattle.bytecode.specs.declared.module.Gives.TheVariants as gives
+use Rattle.cal_terms.specs.declared.types.Gives.TheVariants as gives
 use Rattle.bytecode.specs.declared.module.Module.{Module}
 use Rattle.machine_meaning.specs.Meaning.{machine_meaning}
 

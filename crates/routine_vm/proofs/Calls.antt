@@ -9,7 +9,7 @@ use Rattle.cal_base.specs.declared.value.Store.{Store}
 use Rattle.bytecode.specs.declared.instr.Instr.TheVariants as i
 use Rattle.bytecode.specs.declared.module.Code.{Code}
 use Rattle.bytecode.specs.declared.module.Module.{Module}
-use Rattle.bytecode.specs.declared.module.Ty.{Ty}
+use Rattle.cal_terms.specs.declared.types.Ty.{Ty}
 use Rattle.code_verify.specs.Kinds.{same_kind}
 use Rattle.code_verify.specs.Rules.{HasShape}
 use Rattle.machine_meaning.specs.Machine.{◌>>=◌, kind_of, split, State, On, Traps, calls, spends, enters, begun, on_with, most_callers}

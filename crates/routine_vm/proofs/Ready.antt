@@ -10,7 +10,7 @@ use Rattle.cal_base.specs.Stores.{memory_in}
 use Rattle.bytecode.specs.Spelling.{FitsBlock, FitsFunction}
 use Rattle.bytecode.specs.declared.instr.Instr.{Instr}
 use Rattle.bytecode.specs.declared.module.Code.{Code}
-use Rattle.bytecode.specs.declared.module.Gives.{Gives}
+use Rattle.cal_terms.specs.declared.types.Gives.{Gives}
 use Rattle.bytecode.specs.declared.module.Module.{Module}
 use Rattle.code_verify.specs.Kinds.{Kinds, result}
 use Rattle.code_verify.specs.Rules.{IsVerified}

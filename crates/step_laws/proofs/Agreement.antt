@@ -3,7 +3,7 @@ use Rattle.std.proofs.Common.{◌≡◌, ℕ, zero, suc, ◌<◌, ◌≤◌, Boo
 use Rattle.std.specs.Prelude.{is_some}
 use Rattle.std.specs.List.{position}
 use Rattle.std.proofs.lemmas.Bool.{cases_lt, cases_Bool, both_ways, lt-ltb, le-ltb, ltb-true, and_parts, and_from, or_cases, or_left, or_right}
-use Rattle.cal_base.specs.declared.step.WordKind.{WordKind}
+use Rattle.cal_terms.specs.declared.kinds.WordKind.{WordKind}
 use Rattle.cal_base.specs.Numbers.{least_below}
 use Rattle.cal_base.specs.Memory.{Memory, kinds_of, is_ordinary}
 use Rattle.cal_base.specs.declared.answer.Answer.{Answer}

@@ -2,8 +2,8 @@
 use Rattle.std.specs.Prelude.{◌≡◌, ℕ, ◌<◌, ◌≤◌, ◌↔◌, ◌⊎◌, IsTrue, IsFalse, List, length, ℤ, Some, None, is_some, MatchResult}
 use Rattle.cal_base.specs.declared.ends.StepFault.{StepFault}
 use Rattle.cal_base.specs.declared.ends.StepFault.TheVariants.{Trap, Conflict, Total}
-use Rattle.cal_base.specs.declared.step.WordKind.{WordKind}
-use Rattle.cal_base.specs.declared.step.WordKind.TheVariants.{Tally}
+use Rattle.cal_terms.specs.declared.kinds.WordKind.{WordKind}
+use Rattle.cal_terms.specs.declared.kinds.WordKind.TheVariants.{Tally}
 use Rattle.cal_base.specs.declared.answer.Answer.TheVariants.{Fault}
 use Rattle.cal_base.specs.Arithmetic.{fits_word}
 use Rattle.cal_base.specs.Memory.{Memory, kinds_of, kind_at, value_at, is_ordinary}

@@ -7,7 +7,7 @@ use Rattle.cal_base.specs.declared.ends.StepFault.{StepFault}
 use Rattle.cal_base.specs.declared.ends.StepFault.TheVariants.{Trap, Conflict, Total}
 use Rattle.cal_base.specs.declared.ends.RunEnd.TheVariants.{Done, MainFault, StepFailed}
 use Rattle.cal_base.specs.declared.step.TheConstants.{CALLER}
-use Rattle.cal_base.specs.declared.step.WordKind.TheVariants.{Ordinary, Tally}
+use Rattle.cal_terms.specs.declared.kinds.WordKind.TheVariants.{Ordinary, Tally}
 use Rattle.cal_base.specs.declared.step.Word.{Word}
 use Rattle.cal_base.specs.declared.step.Verdict.TheVariants.{First, Again, Stale, Unasked, Full}
 use Rattle.cal_base.specs.declared.step.Claimed.TheVariants.{Work, AllDone, Spent}

@@ -2,7 +2,7 @@
 use Rattle.std.proofs.Common.{◌≡◌, ◌<◌, ◌≤◌, ℕ, length, List, Option, None, Some, Ok, Err, ◌∙◌, sym, ap, arith, cond, ltb}
 use Rattle.std.specs.List.{position}
 use Rattle.std.proofs.lemmas.Bool.{le-ltb}
-use Rattle.cal_base.specs.declared.step.WordKind.{WordKind}
+use Rattle.cal_terms.specs.declared.kinds.WordKind.{WordKind}
 use Rattle.cal_base.specs.declared.ends.StepFault.{StepFault}
 use Rattle.cal_base.specs.declared.ends.StepFault.TheVariants.{Total}
 use Rattle.cal_base.specs.Memory.{Memory, kinds_of}

@@ -5,8 +5,8 @@ use Rattle.std.specs.Option.{option_map_or}
 use Rattle.std.specs.List.{enumerate_from, position, position_or_len}
 use Rattle.std.proofs.lemmas.Bool.{cases_lt, lt-ltb, le-ltb, ltb-true, leb-true, and_parts, both_ways}
 use Rattle.std.proofs.lemmas.List.Sums.{position_or_len_is, fails_before_first}
-use Rattle.cal_base.specs.declared.step.WordKind.{WordKind}
-use Rattle.cal_base.specs.declared.step.WordKind.TheVariants.{Ordinary, Tally}
+use Rattle.cal_terms.specs.declared.kinds.WordKind.{WordKind}
+use Rattle.cal_terms.specs.declared.kinds.WordKind.TheVariants.{Ordinary, Tally}
 use Rattle.cal_base.specs.declared.step.Word.{Word}
 use Rattle.cal_base.specs.Memory.{Memory, kinds_of, kind_at, value_at, with_value, has_one_writer}
 use Rattle.cal_base.specs.Arithmetic.{fits_word}

@@ -1,7 +1,7 @@
 -- The answers at hand.
 use Rattle.std.proofs.Common.{◌≡◌, ◌<◌, ◌≤◌, ◌+◌, ℕ, zero, suc, length, get_or, take, List, [], ◌∷◌, ◌++◌, Option, None, Some, ◌∙◌, sym, ap, refl, arith, add-one, MatchOption}
 use Rattle.std.specs.Prelude.{slice_get}
-use Rattle.cal_base.specs.declared.step.WordKind.{WordKind}
+use Rattle.cal_terms.specs.declared.kinds.WordKind.{WordKind}
 use Rattle.cal_base.specs.declared.answer.Answer.{Answer}
 use Rattle.cal_base.specs.Answers.{Answers, answer_of}
 use Rattle.cal_base.specs.After.{least_faulty}

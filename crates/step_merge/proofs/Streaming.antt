@@ -5,7 +5,7 @@ use Rattle.std.specs.Prelude.{is_some}
 use Rattle.std.specs.Option.{unwrap_or}
 use Rattle.std.specs.List.{fold}
 use Rattle.std.proofs.lemmas.Int.{ints}
-use Rattle.cal_base.specs.declared.step.WordKind.{WordKind}
+use Rattle.cal_terms.specs.declared.kinds.WordKind.{WordKind}
 use Rattle.cal_base.specs.declared.ends.Cause.{Cause}
 use Rattle.cal_base.specs.declared.answer.Answer.{Answer}
 use Rattle.cal_base.specs.declared.answer.Answer.TheVariants.{Fault}

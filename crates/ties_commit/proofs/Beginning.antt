@@ -2,7 +2,7 @@
 use Rattle.std.proofs.Common.{◌≡◌, ℕ, zero, suc, false, List, Option, None, length, replicate, get_or, refl, sym, ap, ◌∙◌, arith}
 use Rattle.std.proofs.lemmas.List.{length-replicate}
 use Rattle.std.specs.Prelude.{is_some}
-use Rattle.cal_base.specs.declared.step.WordKind.{WordKind}
+use Rattle.cal_terms.specs.declared.kinds.WordKind.{WordKind}
 use Rattle.cal_base.specs.declared.answer.Answer.{Answer}
 use Rattle.cal_base.specs.Answers.{answer_of}
 use Rattle.cal_base.specs.After.{least_faulty}

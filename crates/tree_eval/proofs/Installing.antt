@@ -4,7 +4,7 @@ use Rattle.std.specs.List.{position}
 use Rattle.std.proofs.lemmas.Bool.{le-ltb}
 use Rattle.cal_base.specs.declared.ends.StepFault.{StepFault}
 use Rattle.cal_base.specs.declared.ends.StepFault.TheVariants.{Total}
-use Rattle.cal_base.specs.declared.step.WordKind.{WordKind}
+use Rattle.cal_terms.specs.declared.kinds.WordKind.{WordKind}
 use Rattle.cal_base.specs.Memory.{Memory, kinds_of, kind_at, is_ordinary, has_one_writer}
 use Rattle.cal_base.specs.Answers.{Answers}
 use Rattle.cal_base.specs.After.{after, least_faulty, fault_of, merged_memory, is_outside, unless_outside}

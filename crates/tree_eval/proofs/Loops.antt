@@ -3,7 +3,7 @@ use Rattle.std.proofs.Common.{◌≡◌, length, take, ℕ, zero, suc, ◌+◌, 
 use denote.Hole.Carrier.{hidden}
 use Rattle.csl_tree.specs.declared.program.Program.{Program}
 use Rattle.csl_tree.specs.declared.name.Name.{Name}
-use Rattle.csl_tree.specs.declared.program.Ty.{Ty}
+use Rattle.cal_terms.specs.declared.types.Ty.{Ty}
 use Rattle.csl_tree.specs.declared.program.Expr.{Expr}
 use Rattle.csl_tree.specs.declared.program.Place.{Place}
 use Rattle.csl_tree.specs.declared.program.Call.{Call}

@@ -3,7 +3,7 @@ use Rattle.std.proofs.Common.{◌≡◌, ℕ, zero, suc, ℤ, pos, ◌+◌, ◌-
 use Rattle.std.specs.Prelude.{IfOk, OnErr, IsErrOf}
 use Rattle.std.specs.Io.KnownBytes.{Appends}
 use Rattle.cal_base.specs.declared.step.Word.{Word}
-use Rattle.cal_base.specs.declared.step.WordKind.{WordKind}
+use Rattle.cal_terms.specs.declared.kinds.WordKind.{WordKind}
 use Rattle.cal_base.specs.declared.ends.RunEnd.TheVariants.{Done}
 use Rattle.cal_base.specs.declared.value.Store.TheVariants as store
 use Rattle.cal_base.specs.Memory.{Memory, memory_of}

@@ -2,7 +2,7 @@
 use Rattle.std.specs.Prelude.{Result, Ok, Err}
 use Rattle.cal_base.specs.declared.answer.Answer.{Answer}
 use Rattle.cal_base.specs.declared.answer.Answer.TheVariants.{Update, Fault}
-use Rattle.cal_base.specs.declared.outside.NoMemory.{NoMemory as MemoryWanted}
+use Rattle.cal_terms.specs.declared.want.NoMemory.{NoMemory as MemoryWanted}
 use Rattle.cal_base.specs.declared.value.Store.{Store}
 use Rattle.cal_base.specs.Memory.{Memory}
 use Rattle.cal_base.specs.Stores.{memory_in, written_in}

@@ -15,7 +15,7 @@ use crate::locals::push_locals;
 use crate::names::{Declaration, Signature};
 use crate::stmt::{check_block, declare_local, note_many_locals, note_taken};
 use crate::table::Table;
-use cal_base::NoMemory;
+use cal_terms::NoMemory;
 use csl_tree::program::{Function, Gives, Param};
 use sqlite_items::Items;
 use std::alloc::Global;

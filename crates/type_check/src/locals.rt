@@ -4,7 +4,7 @@ ghost use Rattle.std.specs.Prelude.{◌≡◌, ◌++◌, OnOk};
 ghost use Rattle.type_check.specs.Bodies.{locals_in};
 ghost use Rattle.type_check.specs.Lists.{locals_of, locals_of_arms, positions};
 
-use cal_base::NoMemory;
+use cal_terms::NoMemory;
 use csl_tree::program::{Arm, Form, Stmt};
 use sqlite_items::Items;
 

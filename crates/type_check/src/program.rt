@@ -16,7 +16,7 @@ use crate::locals::push_locals;
 use crate::shared::{check_shared, check_words};
 use crate::stmt::{check_block, note_many_locals};
 use crate::table::Table;
-use cal_base::NoMemory;
+use cal_terms::NoMemory;
 use csl_tree::program::{Function, Program, Stmt};
 use sqlite_items::Items;
 use std::alloc::Global;

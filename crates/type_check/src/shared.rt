@@ -9,7 +9,7 @@ use crate::fault::CheckKind;
 use crate::found::Found;
 use crate::names::Declaration;
 use crate::table::Table;
-use cal_base::{NoMemory, WordKind};
+use cal_terms::{NoMemory, WordKind};
 use csl_tree::program::{ArraySize, Shared, Valued};
 
 /// The most shared words of a program.

@@ -20,7 +20,7 @@ use crate::found::Found;
 use crate::locals::push_locals;
 use crate::names::{Declaration, Typed};
 use crate::table::Table;
-use cal_base::NoMemory;
+use cal_terms::NoMemory;
 use csl_tree::name::Name;
 use csl_tree::program::{Arm, Expr, Form, Gives, Item, Place, RoutineBlock, Stmt, Ty};
 use sqlite_items::Items;

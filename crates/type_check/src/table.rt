@@ -1,7 +1,7 @@
 //! Names in the order of declaration.
 
 use crate::names::Declaration;
-use cal_base::NoMemory;
+use cal_terms::NoMemory;
 use csl_tree::name::{Name, Text};
 use indexmap::IndexMap;
 use std::alloc::Global;

@@ -2,7 +2,7 @@ use Rattle.std.proofs.Common.{◌∙◌, ap, sym, subst}
 use Rattle.csl_tree.specs.declared.program.Program.{Program}
 use Rattle.csl_grammar.specs.Texts.{IsSpelledWithin, text_limit}
 use Rattle.type_check.specs.Faults.{IsAccepted}
-use Rattle.verified_code.specs.Laws.{HasBytes}
+use Rattle.accepted_code.specs.Laws.{HasBytes}
 use Rattle.compiled_code.specs.Modules.{module_of}
 use Rattle.compile_steps.proofs.ModuleLemmas.{module_verified, module_means}
 use Rattle.compile_steps.proofs.module.compile.Goals as goal

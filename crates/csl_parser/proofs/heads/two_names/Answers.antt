@@ -4,7 +4,7 @@ use Rattle.csl_tree.specs.declared.token.Token.{Token}
 use Rattle.csl_tree.specs.declared.token.TokenKind.TheVariants as kind
 use Rattle.csl_tree.specs.declared.token.Keyword.TheVariants as word
 use Rattle.csl_tree.specs.declared.token.Mark.TheVariants as mark
-use Rattle.csl_tree.specs.declared.program.Ty.TheVariants as ty
+use Rattle.cal_terms.specs.declared.types.Ty.TheVariants as ty
 use Rattle.csl_tree.specs.declared.program.Form.TheVariants as form
 use Rattle.csl_tree.specs.declared.program.Item.{Item}
 use Rattle.csl_tree.specs.declared.program.Item.TheVariants as item

@@ -2,8 +2,8 @@ use Rattle.std.proofs.Common.{◌≡◌, ◌∙◌, ap, sym, List, reverse, refl
 use Rattle.std.specs.Bool.{Decides}
 use Rattle.std.proofs.lemmas.List.{reverse-reverse}
 use Rattle.std.specs.Cmp.Lexicographic.{pointwise_decides, pointwise}
-use Rattle.bytecode.specs.declared.module.Ty.{Ty}
-use Rattle.bytecode.specs.declared.module.Ty.TheVariants as ty
+use Rattle.cal_terms.specs.declared.types.Ty.{Ty}
+use Rattle.cal_terms.specs.declared.types.Ty.TheVariants as ty
 use Rattle.bytecode.specs.contracts.module.TyPartialEq.TheImpl as own
 use Rattle.code_verify.proofs.kinds.Kinds.is_same.Goals as goal
 
