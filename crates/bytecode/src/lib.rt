@@ -16,6 +16,3 @@ pub use module::{Code, Gives, Module, Ty};
 pub use reading::decode;
 pub use cal_terms::Text;
 pub use writing::encode;
-
-#[cfg(test)]
-mod tests;

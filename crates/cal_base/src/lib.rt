@@ -34,8 +34,3 @@ pub use update::{KeptUpdate, UpdateWords};
 pub use value::{Store, Val};
 pub use whole::{append_all, write_all};
 pub use words::Words;
-
-#[cfg(test)]
-mod data_tests;
-#[cfg(test)]
-mod tests;
