@@ -1,5 +1,5 @@
 use Rattle.std.proofs.Common.{◌∙◌}
-use Rattle.routine_vm.proofs.tests.tell.Goals as goal
+use Rattle.runtime_rows.proofs.machine.tell.Goals as goal
 
 pub loop-preserved : goal.loop-preserved
 loop-preserved c = record {

@@ -1,5 +1,5 @@
 use Rattle.std.proofs.Common.{◌≡◌}
-use Rattle.routine_vm.proofs.tests.tell_block.Given as goal
+use Rattle.runtime_rows.proofs.machine.tell_block.Given as goal
 
 -- main's state is kept
 abbrev pub invariant-loop-id : goal.invariant-loop-id

@@ -1,5 +1,5 @@
 use Rattle.std.proofs.Common.{◌≡◌}
-use Rattle.routine_vm.proofs.tests.tell_blocks.Given as goal
+use Rattle.runtime_rows.proofs.machine.tell_blocks.Given as goal
 
 -- main's state is kept
 abbrev pub invariant-loop-i : goal.invariant-loop-i

@@ -2,7 +2,7 @@ use Rattle.std.proofs.Common.{◌≡◌}
 use Rattle.cal_base.specs.Memory.{kinds_of}
 use Rattle.machine_meaning.specs.Meaning.{module_memory}
 use Rattle.routine_vm.specs.Held.{MayGoOn}
-use Rattle.routine_vm.proofs.tests.tell.Given as goal
+use Rattle.runtime_rows.proofs.machine.tell.Given as goal
 
 -- main may go on, on a memory with the module's kinds
 abbrev pub invariant-loop : goal.invariant-loop
