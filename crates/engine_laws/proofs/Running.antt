@@ -1,5 +1,5 @@
 -- What a run shows and closes.
-use Rattle.std.proofs.Common.{◌≡◌, ℕ, suc, ◌+◌, ◌<◌, ◌≤◌, List, [], ◌∷◌, ◌++◌, length, Result, Ok, Err, refl, sym, ap, subst, ◌∙◌, arith, append_assoc, append_nil}
+use Rattle.std.proofs.Common.{◌≡◌, ℕ, suc, ◌+◌, ◌<◌, ◌≤◌, List, [], ◌∷◌, ◌++◌, length, Result, Ok, Err, refl, sym, ap, subst, ◌∙◌, arith, append_assoc, append-nil}
 use Rattle.std.proofs.lemmas.List.{length_push}
 use Rattle.cal_base.specs.declared.ends.RunEnd.{RunEnd}
 use Rattle.cal_base.specs.declared.ends.RunEnd.TheVariants.{StepFailed}
@@ -54,16 +54,16 @@ pub runs_are_meant : RunsAreMeant
 runs_are_meant main _ _ _ (Ended ending shown closed runs) =
     let part = parts_are_meant main (Ends ending) shown closed runs in
     record {
-      events = sym (append_nil shown) ∙ part.events;
+      events = sym (append-nil shown) ∙ part.events;
       ending = part.ending;
-      steps = sym (append_nil (jobs_in closed)) ∙ part.steps;
+      steps = sym (append-nil (jobs_in closed)) ∙ part.steps;
       whole = part.whole;
     }
 runs_are_meant main _ _ _ (Failed job next shown closed history fault runs whole left) =
     let part = parts_are_meant main (Opens job next) shown closed runs in
     let meant_so : meant job ≡ Err fault = left_is_meant job history (Err fault) whole left in
     record {
-      events = sym (append_nil shown) ∙ ap (λ r. shown ++ (going_on job r (λ later. meaning_of (next later))).events) (sym meant_so) ∙ part.events;
+      events = sym (append-nil shown) ∙ ap (λ r. shown ++ (going_on job r (λ later. meaning_of (next later))).events) (sym meant_so) ∙ part.events;
       ending = ap (λ r. (going_on job r (λ later. meaning_of (next later))).ending) (sym meant_so) ∙ part.ending;
       steps = jobs_push closed (record { job = job; history = history }) ∙ ap (λ r. jobs_in closed ++ job ∷ steps_behind r (λ later. steps_of (next later))) (sym meant_so) ∙ part.steps;
       whole = each_push IsWhole closed (record { job = job; history = history }) part.whole whole;

@@ -36,9 +36,9 @@ pub record IsPart (main rest : Main) (shown : List Event) (closed : List ClosedS
   pub whole : Each IsWhole closed
 
 -- a whole run: it showed and ended as main means, by a legal and complete history of each step that the meaning opens
-pub record IsMeantRun (main : Main) (shown : List Event) (closed : List ClosedStep) (ending : RunEnd) : Type 0 where
+pub record IsMeantRun (main : Main) (shown : List Event) (closed : List ClosedStep) (last : RunEnd) : Type 0 where
   pub events : shown ≡ (meaning_of main).events
-  pub ending : ending ≡ (meaning_of main).ending
+  pub ending : last ≡ (meaning_of main).ending
   pub steps : jobs_in closed ≡ steps_of main
   pub whole : Each IsWhole closed
 
