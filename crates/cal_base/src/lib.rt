@@ -27,15 +27,8 @@ pub use job::JobName;
 pub use memory_files::MemFiles;
 pub use memory_sink::MemSink;
 pub use outside::{Failed, Files, Gate, LoadError, OpenGate, Point, Sink};
-pub use step::{
-    CALLER, Claimed, Entry, Verdict, Word, WorkerTally, arrival_bound, claim_bound,
-};
+pub use step::{CALLER, Claimed, Entry, Verdict, Word, WorkerTally, arrival_bound, claim_bound};
 pub use update::{KeptUpdate, UpdateWords};
 pub use value::{Store, Val};
 pub use whole::{append_all, write_all};
 pub use words::Words;
-
-#[cfg(test)]
-mod data_tests;
-#[cfg(test)]
-mod tests;

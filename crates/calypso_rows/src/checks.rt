@@ -27,6 +27,10 @@ fn canonical_texts(rt: HostRuntime) -> Result<(), Fail> {
             b"shared{int s;}main{parbegin routine[1](int w,int id){s=id;}parend;} // done",
             b"shared {\n  int s ;\n}\nmain {\n  parbegin\n    routine [ 1 ] ( int w , int id ) {\n      s = id ;\n    }\n  parend ;\n}\n",
         ),
+        (
+            b"shared{int a[2]={-7};}main{print(\"sum\",(12));}",
+            b"shared {\n  int a [ 2 ] = {\n    - 7 }\n  ;\n}\nmain {\n  print ( \"sum\" , ( 12 ) ) ;\n}\n",
+        ),
     ];
     for (text, out) in rows {
         let called = call(

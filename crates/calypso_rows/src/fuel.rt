@@ -27,7 +27,13 @@ const PRODUCTS: &[u8] =
 #[test]
 fn runs_with_little_fuel(rt: HostRuntime) -> Result<(), Fail> {
     let alloc = rt.alloc();
-    let rows: [Row; 4] = [
+    let rows: [Row; 5] = [
+        (
+            b"shared { } main { print(\"sum\", 1 + -3); }",
+            3,
+            RunEnd::Done { steps: 0 },
+            b"sum -2\n",
+        ),
         (
             b"shared { } main { int i = 0; while (i < 3) { i += 1; } print(i); }",
             3,

@@ -13,3 +13,7 @@ mod refusals;
 mod runs;
 #[cfg(test)]
 mod sizes;
+#[cfg(test)]
+mod tokens;
+#[cfg(test)]
+mod trees;

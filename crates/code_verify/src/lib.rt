@@ -16,6 +16,3 @@ mod whole;
 
 pub use verified::{Verified, VerifyError};
 pub use whole::verify;
-
-#[cfg(test)]
-mod tests;

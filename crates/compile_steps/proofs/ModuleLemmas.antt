@@ -9,13 +9,16 @@ use Rattle.csl_tree.specs.declared.program.Stmt.{Stmt}
 use Rattle.bytecode.specs.declared.module.Code.{Code}
 use Rattle.csl_grammar.specs.Texts.{IsSpelledWithin, text_limit}
 use Rattle.csl_meaning.specs.Layout.{Text, first_memory}
+use Rattle.cal_base.specs.Main as opened
+use Rattle.csl_meaning.specs.Meaning as language
 use Rattle.csl_meaning.specs.Meaning.{meaning}
 use Rattle.bytecode.specs.declared.module.Module.{Module}
 use Rattle.bytecode.specs.Spelling.{FitsByte}
 use Rattle.code_verify.specs.Rules.{IsVerified}
-use Rattle.machine_meaning.specs.Meaning.{machine_meaning}
+use Rattle.machine_meaning.specs.Meaning.{machine_main, machine_meaning}
 use Rattle.compiled_code.specs.Modules.{tallies_from, initial_from, function_code, block_code, main_code, module_of}
-use Rattle.compiled_code.proofs.Meaning.{means_the_same}
+use Rattle.compiled_code.specs.Laws.{HasRoutines}
+use Rattle.compiled_code.proofs.Meaning.{means_the_same, opens_the_same, has_routines}
 use Rattle.type_check.specs.Faults.{IsAccepted}
 use Rattle.accepted_code.proofs.Accepted.{accepted_shape}
 use Rattle.type_check.proofs.ExpressionLemmas.{next_item}
@@ -96,6 +99,13 @@ module _ (p : Program) (spelled : IsSpelledWithin text_limit p) (accepted : IsAc
 
   pub module_means : (fuel : ℕ) → machine_meaning m fuel ≡ meaning p fuel
   module_means fuel = ap (λ (n : Module). machine_meaning n fuel) same ∙ means_the_same p (is_verified p spelled accepted bytes) (accepted_shape p spelled accepted) fuel
+
+  -- it opens the steps that the program opens, and its routines do what the program's do
+  pub module_steps : (fuel : ℕ) → opened.steps_of (machine_main m fuel) ≡ opened.steps_of (language.main p fuel)
+  module_steps fuel = ap (λ (n : Module). opened.steps_of (machine_main n fuel)) same ∙ opens_the_same p (is_verified p spelled accepted bytes) (accepted_shape p spelled accepted) fuel
+
+  pub module_routines : HasRoutines p m
+  module_routines = subst (λ (n : Module). HasRoutines p n) (sym same) (has_routines p (is_verified p spelled accepted bytes) (accepted_shape p spelled accepted))
 
 -- the code of one more function
 pub next_codes : (p : Program) (codes next all : List Code) (code : Code) (fs : List Function) (k : ℕ) (f : Function) → next ≡ codes ++ code ∷ [] → code ≡ function_code p f → k < length fs → f ≡ get_or fs k f

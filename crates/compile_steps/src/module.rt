@@ -3,8 +3,10 @@
 ghost use Rattle.std.specs.Prelude.{◌≡◌, ℕ, IfOk, map};
 ghost use Rattle.csl_grammar.specs.Texts.{IsSpelledWithin, text_limit};
 ghost use Rattle.type_check.specs.Faults.{IsAccepted};
-ghost use Rattle.csl_meaning.specs.Meaning.{meaning};
-ghost use Rattle.machine_meaning.specs.Meaning.{machine_meaning};
+ghost use Rattle.cal_base.specs.Main.{steps_of};
+ghost use Rattle.csl_meaning.specs.Meaning.{main, meaning};
+ghost use Rattle.machine_meaning.specs.Meaning.{machine_main, machine_meaning};
+ghost use Rattle.compiled_code.specs.Laws.{HasRoutines};
 ghost use Rattle.compiled_code.specs.Modules as modules;
 ghost use Rattle.accepted_code.specs.Laws.{HasBytes};
 
@@ -68,12 +70,12 @@ fn module_of(alloc: Global, program: &Program) -> Result<Module, NoMemory>
     })
 }
 
-/// The module of an accepted program, which means what the program means: with each amount of fuel it prints the same lines, opens
-/// the same steps, leaves the same memory after each of them and comes to the same end. Answers `NoMemory` where there is no
-/// memory for it, or where a code would have 2^32 instructions.
-pub fn compile(alloc: Global, p: &Checked) -> Result<Verified, NoMemory>
-    ensures module { IfOk result (λ m. m ≡ modules.module_of p.now) }
+/// The module of an accepted program, which keeps the rules of verified modules.
+fn verified_module(alloc: Global, p: &Checked) -> Result<Verified, NoMemory>
     ensures means { IfOk result (λ m. (fuel : ℕ) → machine_meaning m fuel ≡ meaning p.now fuel) }
+    ensures steps { IfOk result (λ m. (fuel : ℕ) → steps_of (machine_main m fuel) ≡ steps_of (main p.now fuel)) }
+    ensures routines { IfOk result (λ m. HasRoutines p.now m) }
+    ensures module { IfOk result (λ m. m ≡ modules.module_of p.now) }
 {
     let module = module_of(alloc, p.program())?;
     match verify(alloc, module) {
@@ -81,4 +83,16 @@ pub fn compile(alloc: Global, p: &Checked) -> Result<Verified, NoMemory>
         Err(VerifyError::NoMemory) => Err(NoMemory),
         Err(VerifyError::Refused) => unreachable!(),
     }
+}
+
+/// The module of an accepted program, which means what the program means: with each amount of fuel it prints the same lines, opens
+/// the same steps, each on the same memory and with the same answers of its routines, leaves the same memory after each of them and
+/// comes to the same end. On each memory of the program's words a routine of the module does what the program's does, and leaves the
+/// same fuel. Answers `NoMemory` where there is no memory for it, or where a code would have 2^32 instructions.
+pub fn compile(alloc: Global, p: &Checked) -> Result<Verified, NoMemory>
+    ensures means { IfOk result (λ m. (fuel : ℕ) → machine_meaning m fuel ≡ meaning p.now fuel) }
+    ensures steps { IfOk result (λ m. (fuel : ℕ) → steps_of (machine_main m fuel) ≡ steps_of (main p.now fuel)) }
+    ensures routines { IfOk result (λ m. HasRoutines p.now m) }
+{
+    verified_module(alloc, p)
 }

@@ -81,7 +81,7 @@ get_front [] ys k x e = absurd cc
 get_front (z ∷ xs) ys zero x e = e
 get_front (z ∷ xs) ys (suc k) x e = get_front xs ys k x e
 
-get_map : {A B : Type 0} (f : A → B) (xs : List A) (k : ℕ) (x : A) → slice_get xs k ≡ Some x → slice_get (map f xs) k ≡ Some (f x)
+pub get_map : {A B : Type 0} (f : A → B) (xs : List A) (k : ℕ) (x : A) → slice_get xs k ≡ Some x → slice_get (map f xs) k ≡ Some (f x)
 get_map f [] k x e = absurd cc
 get_map f (z ∷ xs) zero x e = let same : z ≡ x = cc in ap (λ (y : _). Some (f y)) same
 get_map f (z ∷ xs) (suc k) x e = get_map f xs k x e

@@ -9,7 +9,7 @@ use Rattle.cal_base.specs.declared.value.Store.TheVariants.{Main}
 use Rattle.cal_base.specs.Memory.{Memory, kinds_of}
 use Rattle.cal_base.specs.Claims.{StepJob, meant}
 use Rattle.cal_base.specs.Main as outline
-use Rattle.cal_base.specs.Main.{Meaning, meaning_of, going_on}
+use Rattle.cal_base.specs.Main.{Meaning, meaning_of, going_on, steps_of, steps_behind}
 use Rattle.csl_tree.specs.declared.program.Program.{Program}
 use Rattle.csl_tree.specs.declared.program.Arm.{Arm'}
 use Rattle.csl_tree.specs.declared.program.RoutineBlock.{RoutineBlock, RoutineBlock'}
@@ -43,7 +43,8 @@ use Rattle.machine_meaning.proofs.Reaches.{main_follows, main_traps}
 use Rattle.compiled_code.specs.Sizes.{texts_in, steps_in, steps_in_row, steps_in_arms, steps_in_last, kinds_in}
 use Rattle.compiled_code.specs.Places.{form_size, row_size}
 use Rattle.compiled_code.specs.Statements.{form_code}
-use Rattle.compiled_code.specs.Modules.{beginning, ends_at, main_code, module_of}
+use Rattle.compiled_code.specs.Modules.{beginning, ends_at, block_code, main_code, module_of}
+use Rattle.compiled_code.specs.Laws.{HasRoutines}
 use Rattle.compiled_code.specs.Shape.{HasShape, RoutineIs, FormIs, RowIs, ArmsAre, LastIs, BlocksAre}
 use Rattle.compiled_code.proofs.Does.{HasKinds, Sound, Does, no_step}
 use Rattle.compiled_code.proofs.Pieces.{Holds, back, stands}
@@ -52,7 +53,8 @@ use Rattle.compiled_code.proofs.Values.{listed, at_instr, mk}
 use Rattle.compiled_code.proofs.Loops.{After}
 use Rattle.compiled_code.proofs.Statements.{row_does}
 use Rattle.compiled_code.proofs.Bodies.{in_order_is}
-use Rattle.compiled_code.proofs.Mains.{Listed, listed_front, listed_back, calls, deep, print_does, par_does}
+use Rattle.compiled_code.proofs.Routines.{routine_same}
+use Rattle.compiled_code.proofs.Mains.{Listed, listed_front, listed_back, calls, deep, get_map, print_does, par_does}
 use Rattle.compiled_code.proofs.Words.{first_same, meant_kinds}
 
 -- ---- the routine blocks of main
@@ -156,7 +158,18 @@ module _ (p : Program) (ok : IsVerified (module_of p)) (shape : HasShape p) (fue
   returns None ml place u sound' h = at_instr p ok false fuel (mk p ok false fuel c ml [] place [] u) i.Return h
   returns (Some v) ml place u sound' h = no_step p ok false fuel (mk p ok false fuel c ml [] place (v ∷ []) u) sound' (at_instr p ok false fuel (mk p ok false fuel c ml [] place (v ∷ []) u) i.Return h)
 
-  -- from a reached state the machine goes on with the same events and the same end
+  -- what main shows and how it ends, beside the steps that it opens
+  abbrev Told : Type 0
+  Told = Meaning × List StepJob
+
+  abbrev told : outline.Main → Told
+  told main = (meaning_of main, steps_of main)
+
+  -- a step is opened, and main goes on with what it leaves
+  abbrev told_behind : StepJob → Result Memory StepFault → (Memory → Told) → Told
+  told_behind job result next' = (going_on job result (λ later. (next' later).0), job ∷ steps_behind result (λ later. (next' later).1))
+
+  -- from a reached state the machine goes on with the same events, the same steps and the same end
   abbrev From : ℕ → State → outline.Main
   From steps s = machine_means.main_of m fuel steps s
 
@@ -164,55 +177,69 @@ module _ (p : Program) (ok : IsVerified (module_of p)) (shape : HasShape p) (fue
   goes steps s n reached e = main_goes_on m ok (first_memory p.shared) fuel fuel steps s reached ∙ ap (λ (o : Option Next). main_at m fuel steps (λ more later. From more later) o) e
 
   done : (v : Option Val) (ml : List Val) (place : ℕ) (u : World) (steps : ℕ) (s' : State) → u.steps ≡ steps → Reached m begin s' → Sound p ok false fuel s' → s' ≡ mk p ok false fuel c ml [] place (listed v) u → slice_get c.instrs place ≡ Some i.Return
-      → meaning_of (outline.Ends (Done u.steps)) ≡ meaning_of (From steps s')
+      → told (outline.Ends (Done u.steps)) ≡ told (From steps s')
   done v ml place u steps s' e reached sound' is h =
       let t = mk p ok false fuel c ml [] place (listed v) u in
       let at = goes steps t (Ends u.store u.fuel) (subst (λ (x : State). Reached m begin x) is reached) (returns v ml place u (subst (λ (x : State). Sound p ok false fuel x) is sound') h) in
-      ap (λ (k : ℕ). meaning_of (outline.Ends (Done k))) e ∙ ap meaning_of (sym at) ∙ ap (λ (x : State). meaning_of (From steps x)) (sym is)
+      ap (λ (k : ℕ). told (outline.Ends (Done k))) e ∙ ap told (sym at) ∙ ap (λ (x : State). told (From steps x)) (sym is)
 
   -- a step that leaves the same goes on the same
-  same_step : (job other : StepJob) (next' : Memory → Meaning) (next'' : Memory → Meaning) → job ≡ other → ((later : Memory) → meant job ≡ Ok later → next' later ≡ next'' later) → going_on job (meant job) next' ≡ going_on other (meant other) next''
-  same_step job other next' next'' e h = by (meant job) refl ∙ ap (λ (j : StepJob). going_on j (meant j) next'') e
+  same_step : (job other : StepJob) (next' : Memory → Told) (next'' : Memory → Told) → job ≡ other → ((later : Memory) → meant job ≡ Ok later → next' later ≡ next'' later) → told_behind job (meant job) next' ≡ told_behind other (meant other) next''
+  same_step job other next' next'' e h = by (meant job) refl ∙ ap (λ (j : StepJob). told_behind j (meant j) next'') e
     where
-      by : (r : Result Memory StepFault) → meant job ≡ r → going_on job r next' ≡ going_on job r next''
-      by (Ok later) is = ap (λ (x : Meaning). outline.showing (outline.step_event job later) x) (h later is)
+      by : (r : Result Memory StepFault) → meant job ≡ r → told_behind job r next' ≡ told_behind job r next''
+      by (Ok later) is = ap (λ (x : Told). (outline.showing (outline.step_event job later) x.0, job ∷ x.1)) (h later is)
       by (Err fault) is = refl
 
-  means : (o : Outcome Went) (n steps : ℕ) (s : State) → Counted n steps o → Reached m begin s → Does p ok false fuel Body o s → meaning_of (main_of o) ≡ meaning_of (From steps s)
+  means : (o : Outcome Went) (n steps : ℕ) (s : State) → Counted n steps o → Reached m begin s → Does p ok false fuel Body o s → told (main_of o) ≡ told (From steps s)
   means (Gives (ending.Normal, ls) u) n steps s counted reached d =
       let to = main_follows m ok (first_memory p.shared) fuel fuel steps s d.0 reached d.1 in
       let at : 0 + size ≡ size = omega arith in
-      done None d.3.0 size u steps d.0 counted.1 to.1 d.2 (d.3.1 ∙ ap (λ (k : ℕ). mk p ok false fuel c d.3.0 [] k [] u) at) last ∙ ap meaning_of (sym to.0)
+      done None d.3.0 size u steps d.0 counted.1 to.1 d.2 (d.3.1 ∙ ap (λ (k : ℕ). mk p ok false fuel c d.3.0 [] k [] u) at) last ∙ ap told (sym to.0)
   means (Gives (ending.Break, ls) u) n steps s counted reached d =
       let to = main_follows m ok (first_memory p.shared) fuel fuel steps s d.0 reached d.1 in
-      done None d.3.0 size u steps d.0 counted.1 to.1 d.2 d.3.2 last ∙ ap meaning_of (sym to.0)
+      done None d.3.0 size u steps d.0 counted.1 to.1 d.2 d.3.2 last ∙ ap told (sym to.0)
   means (Gives (ending.Continue, ls) u) n steps s counted reached d =
       let to = main_follows m ok (first_memory p.shared) fuel fuel steps s d.0 reached d.1 in
-      done None d.3.0 size u steps d.0 counted.1 to.1 d.2 d.3.2 last ∙ ap meaning_of (sym to.0)
+      done None d.3.0 size u steps d.0 counted.1 to.1 d.2 d.3.2 last ∙ ap told (sym to.0)
   means (Gives (ending.Return v, ls) u) n steps s counted reached d =
       let to = main_follows m ok (first_memory p.shared) fuel fuel steps s d.0 reached d.1 in
-      done v d.3.0 d.3.1 u steps d.0 counted.1 to.1 d.2 d.3.3 d.3.2 ∙ ap meaning_of (sym to.0)
+      done v d.3.0 d.3.1 u steps d.0 counted.1 to.1 d.2 d.3.3 d.3.2 ∙ ap told (sym to.0)
   means (Stops cause u) n steps s counted reached d =
-      ap (λ (k : ℕ). meaning_of (outline.Ends (MainFault k cause))) counted.1 ∙ ap meaning_of (sym (main_traps m ok (first_memory p.shared) fuel fuel steps s cause u.store u.fuel reached d))
+      ap (λ (k : ℕ). told (outline.Ends (MainFault k cause))) counted.1 ∙ ap told (sym (main_traps m ok (first_memory p.shared) fuel fuel steps s cause u.store u.fuel reached d))
   means (ShowsLine line rest) n steps s counted reached d =
       let to = main_follows m ok (first_memory p.shared) fuel fuel steps s d.1.0 reached d.1.1 in
       let reached' : Reached m begin d.0 = Then d.1.0 d.0 (Prints line d.0) to.1 d.1.2 refl in
-      ap (λ (x : Meaning). outline.showing (outline.Line line) x) (means rest n steps d.0 counted reached' d.3)
-      ∙ ap meaning_of (sym (to.0 ∙ goes steps d.1.0 (Prints line d.0) to.1 d.1.2))
+      ap (λ (x : Told). (outline.showing (outline.Line line) x.0, x.1)) (means rest n steps d.0 counted reached' d.3)
+      ∙ ap told (sym (to.0 ∙ goes steps d.1.0 (Prints line d.0) to.1 d.1.2))
   means (OpensStep job rest) n steps s counted reached d =
       let to = main_follows m ok (first_memory p.shared) fuel fuel steps s d.3.0 reached d.3.1 in
       let opened : StepJob = record { number = suc steps; opening = Rattle.cal_base.specs.Stores.memory_in d.0.store; answers = machine_means.answers m fuel (Rattle.cal_base.specs.Stores.memory_in d.0.store) (machine_means.blocks_of m d.1 (length d.2)) d.2 } in
       let same : job ≡ opened = λ j. record { number = counted.1 j; opening = d.5.opening j; answers = d.5.answers j } in
-      same_step job opened (λ later. meaning_of (main_of (rest later))) (λ later. meaning_of (From (suc steps) (record d.0 { store = Main later }))) same (λ later is.
+      same_step job opened (λ later. told (main_of (rest later))) (λ later. told (From (suc steps) (record d.0 { store = Main later }))) same (λ later is.
       let kinds : HasKinds p later = meant_kinds job later is ∙ ap (λ (x : Memory). kinds_of x) d.5.opening ∙ d.4.kinds in
       means (rest later) (n - 1) (suc steps) (record d.0 { store = Main later }) (counted.3 later) (Then d.3.0 (record d.0 { store = Main later }) (Opens d.1 d.2 d.0) to.1 d.3.2 (later, refl)) (d.6 later kinds))
-      ∙ ap meaning_of (sym (to.0 ∙ goes steps d.3.0 (Opens d.1 d.2 d.0) to.1 d.3.2))
+      ∙ ap told (sym (to.0 ∙ goes steps d.3.0 (Opens d.1 d.2 d.0) to.1 d.3.2))
+
+  -- main of the module and main of the program tell the same
+  tells_the_same : told (machine_means.machine_main m fuel) ≡ told (main_of (run_of p fuel))
+  tells_the_same =
+      let first = first_same p in
+      let rows = in_order_is p (calls_to p most_levels) (in_main p fuel) p.main in
+      ap (λ (memory : Memory). told (From 0 (main_beginning m memory fuel))) first
+      ∙ sym (means (in_order p (calls_to p most_levels) (in_main p fuel) (hidden-the_row-Stmt-1 p.main) [] (first_world p fuel)) fuel 0 begin (subst (λ (run : Locals → Rattle.csl_meaning.specs.Runs.Run Went). Counted fuel 0 (run [] (first_world p fuel))) (sym rows) (run_counted p fuel)) Start body_does)
+      ∙ ap (λ (run : Locals → Rattle.csl_meaning.specs.Runs.Run Went). told (main_of (run [] (first_world p fuel)))) rows
 
   -- the module means what the program means
   pub means_the_same : machine_means.machine_meaning m fuel ≡ language.meaning p fuel
-  means_the_same =
-      let first = first_same p in
-      let rows = in_order_is p (calls_to p most_levels) (in_main p fuel) p.main in
-      ap (λ (memory : Memory). meaning_of (From 0 (main_beginning m memory fuel))) first
-      ∙ sym (means (in_order p (calls_to p most_levels) (in_main p fuel) (hidden-the_row-Stmt-1 p.main) [] (first_world p fuel)) fuel 0 begin (subst (λ (run : Locals → Rattle.csl_meaning.specs.Runs.Run Went). Counted fuel 0 (run [] (first_world p fuel))) (sym rows) (run_counted p fuel)) Start body_does)
-      ∙ ap (λ (run : Locals → Rattle.csl_meaning.specs.Runs.Run Went). meaning_of (main_of (run [] (first_world p fuel)))) rows
+  means_the_same = ap (λ (x : Told). x.0) tells_the_same
+
+  -- and opens the same steps: their numbers, opening memories and answers
+  pub opens_the_same : steps_of (machine_means.machine_main m fuel) ≡ steps_of (main_of (run_of p fuel))
+  opens_the_same = ap (λ (x : Told). x.1) tells_the_same
+
+-- each routine block of main has its code among the module's blocks, and that does the same
+pub has_routines : (p : Program) → IsVerified (module_of p) → HasShape p → HasRoutines p (module_of p)
+has_routines p ok shape n b at =
+    let there : slice_get (module_of p).blocks n ≡ Some (block_code p b) = get_map (λ (x : RoutineBlock). block_code p x) (steps_in (variant.Block p.main)) n b at in
+    (block_code p b, there, λ width id memory fuel kinds. routine_same p ok shape fuel b n width id memory fuel there (in_form p (variant.Block p.main) shape.main b n at) kinds)

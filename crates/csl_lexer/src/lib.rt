@@ -14,8 +14,6 @@ use std::alloc::{AllocFailed, Global};
 mod item;
 mod scan;
 mod spelling;
-#[cfg(test)]
-mod tests;
 
 /// Why a text has no tokens: its first fault, by the place of the first byte of what is wrong.
 #[derive(Clone, Copy, Debug, PartialEq, Eq)]

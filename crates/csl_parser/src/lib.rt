@@ -17,8 +17,6 @@ mod levels;
 mod program;
 mod simple;
 mod stmt;
-#[cfg(test)]
-mod tests;
 mod tokens;
 
 use cal_terms::NoMemory;

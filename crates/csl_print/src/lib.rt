@@ -12,6 +12,3 @@ mod stmt;
 mod turn;
 
 pub use program::print_program;
-
-#[cfg(test)]
-mod tests;

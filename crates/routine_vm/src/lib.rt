@@ -19,6 +19,3 @@ mod waiting;
 pub use event::{Item, MainEvent};
 pub use image::first_image;
 pub use machine::Machine;
-
-#[cfg(test)]
-mod tests;

@@ -17,6 +17,3 @@ mod store;
 mod widths;
 
 pub use run::{EvalError, eval};
-
-#[cfg(test)]
-mod tests;

@@ -4,7 +4,7 @@ use Rattle.std.proofs.lemmas.List.{reverse-reverse}
 use Rattle.std.specs.Cmp.Lexicographic.{pointwise_decides, pointwise}
 use Rattle.cal_terms.specs.declared.types.Ty.{Ty}
 use Rattle.cal_terms.specs.declared.types.Ty.TheVariants as ty
-use Rattle.bytecode.specs.contracts.module.TyPartialEq.TheImpl as own
+use Rattle.cal_terms.specs.contracts.types.TyPartialEq.TheImpl as own
 use Rattle.code_verify.proofs.kinds.Kinds.is_same.Goals as goal
 
 kinds_decide : (a b : Ty) → Decides ((own.eq-value).it a b) (a ≡ b)
