@@ -2,7 +2,7 @@
 use Rattle.std.proofs.Common.{◌≡◌, ℕ, zero, suc, ◌+◌, ◌<◌, ◌≤◌, ℤ, Bool, true, false, List, [], ◌∷◌, length, replicate, get_or, set, Some, None, refl, sym, ap, ◌∙◌, arith, ⊎_elim}
 use Rattle.std.proofs.lemmas.Bool.{cases_lt}
 use Rattle.std.proofs.lemmas.List.{get_or-set_same, get_or-set_other, length-set}
-use Rattle.frame_pool.specs.Pool.{Pool, frame_at, free_count, IsOut, TakesLowest}
+use Rattle.frame_pool.specs.Pool.{Pool, frame_at, free_count, IsOut, NoneIsFree, TakesLowest}
 use Rattle.frame_pool.specs.Held.{held, IsHeld, IsFirstFree}
 
 pub length-held : (out : List Bool) (frames : List (List ℤ)) → length out ≡ length frames → length (held out frames) ≡ length out
@@ -162,3 +162,24 @@ held_after_take out frames from f is first =
       below = λ q low. get_or-set_other out f q true false (λ e. omega arith)
           ∙ ⊎_elim (λ (early : q < from). is.below q early) (λ (late : from ≤ q). first.between q late low) (cases_lt q from);
     }
+
+-- where no frame is free, none is counted
+pub none_free : (pool : Pool) → NoneIsFree pool → free_count pool ≡ 0
+unfolding free_count
+none_free [] all = refl
+none_free (None ∷ pool) all = let e = all 0 (omega arith) in cc
+none_free (Some words ∷ pool) all = none_free pool (λ q there. all (suc q) (omega arith))
+
+-- a frame that is out is one of the pool's
+pub out_within : (pool : Pool) (f : ℕ) → IsOut pool f → f < length pool
+out_within [] f out = cc
+out_within (o ∷ pool) zero out = omega arith
+out_within (o ∷ pool) (suc f) out = let more = out_within pool f out in omega arith
+
+-- a frame that is out stays out where words are written to a frame
+pub out_written : (pool : Pool) (f g : ℕ) (words : List ℤ) → IsOut pool f → IsOut (set pool g (Some words)) f
+out_written [] f g words out = cc
+out_written (o ∷ pool) zero zero words out = refl
+out_written (o ∷ pool) zero (suc g) words out = out
+out_written (o ∷ pool) (suc f) zero words out = out
+out_written (o ∷ pool) (suc f) (suc g) words out = out_written pool f g words out
