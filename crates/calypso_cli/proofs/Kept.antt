@@ -1,25 +1,22 @@
 -- What a command that loads a program and does work on it promises follows from what the load and the work ensure.
-use Rattle.std.proofs.Common.{◌≡◌, ◌⊎◌, ◌≢◌, ◌≤◌, ◌<◌, ℕ, List, [], ◌∷◌, length, Option, Some, None, IfSome, refl, sym, ap, ◌∙◌, subst, arith, inl, inr}
+use Rattle.std.proofs.Common.{◌≡◌, ◌⊎◌, ◌<◌, ℕ, List, [], length, Option, Some, None, refl, sym, ap, ◌∙◌, subst, arith, inl, inr}
 use Rattle.std.specs.Prelude.{IsSomeAnd}
-use Rattle.std.specs.Io.{StartsWith}
 use Rattle.std.specs.Io.KnownBytes.{Appends}
 use Rattle.std.proofs.KnownBytes.{Appends-nil}
 use Rattle.cal_base.specs.Causes.{Rose, IsQuiet}
 use Rattle.cal_base.specs.Contents.{Contents, Told, SameFiles, AppendsPrefix}
 use Rattle.csl_tree.specs.declared.program.Program.{Program}
 use Rattle.csl_grammar.specs.Texts.{text_limit}
-use Rattle.csl_reader.specs.declared.refusal.Refusal.{Refusal}
 use Rattle.csl_reader.specs.Readings as reading
 use Rattle.csl_reader.specs.Readings.{IsRead}
 use Rattle.csl_reader.proofs.OneWay.{read_one_way}
 use Rattle.command_words.specs.Commands.{Command}
-use Rattle.calypso_cli.specs.Endings.{Part, files, out, Kind, worked, turned_away, failed, wanted_memory, Ending, done, no_command, cannot_load, cannot_write, refused, fault, no_memory, output_failed, script_refused, events_refused, too_long, module_refused, kind_of, status_of, IsBeforeWork}
-use Rattle.calypso_cli.specs.Outcomes.{Sight, Reach, loads, cannot, Outcome, Work, finished, stopped, reaching, Loads, missing, long, turned, loaded, Does}
-use Rattle.calypso_cli.specs.Traces.{Trace}
+use Rattle.calypso_cli.specs.Endings.{Part, files, out, Kind, worked, turned_away, failed, wanted_memory, Ending, done, no_command, cannot_load, cannot_write, refused, fault, no_memory, output_failed, script_refused, events_refused, too_long, module_refused, kind_of, IsBeforeWork}
+use Rattle.calypso_cli.specs.Outcomes.{Sight, loads, Outcome, Work, finished, stopped, reaching, Loads, long, turned, loaded, Does}
 use Rattle.calypso_cli.specs.Commands.{IsLoaded, IsWritten, LoadsProgram, WritesOut, CanEnd, IsRefusedText, WithProgram, ComesTo, Writes, MayReport, Reports}
 use Rattle.calypso_cli.specs.Steps as step
 use Rattle.calypso_cli.specs.Steps.{Holds, ReadsAs, StopsLoad, EndsWork, whole, out_failed}
-use Rattle.calypso_cli.specs.Promise.{Objects, faults_of, Worked, WasTurnedAway, MayEnd, as_it_comes, for_memory, at_a_file, at_out, Touches, HoldsWritten, HoldsFronts, EndsByItself, CanWork, RunsAs, Tells, OnSight, Sees, Works}
+use Rattle.calypso_cli.specs.Promise.{Objects, faults_of, Worked, WasTurnedAway, as_it_comes, for_memory, at_a_file, at_out, Touches, HoldsWritten, HoldsFronts, EndsByItself, CanWork, RunsAs, OnSight, Sees, Works}
 use Rattle.calypso_cli.proofs.Fronts.{whole_front}
 use Rattle.calypso_cli.proofs.Only.{only_loaded, only_turned, only_long, is_reached}
 use Rattle.calypso_cli.proofs.Readings.{programs_once}

@@ -1,19 +1,16 @@
 -- The promise of the top call follows from what carrying out the command ensures.
-use Rattle.std.proofs.Common.{◌≡◌, ◌⊎◌, ◌≤◌, ◌==◌, ◌&&◌, ℕ, Bool, true, false, not, List, [], ◌++◌, Option, Some, None, is_some, if◌then◌else◌, refl, sym, ap, ◌∙◌, subst, arith, inl, inr, append-nil}
-use Rattle.std.specs.Io.KnownBytes.{Appends}
+use Rattle.std.proofs.Common.{◌≡◌, ◌⊎◌, ◌≤◌, ◌==◌, ◌&&◌, ℕ, Bool, true, false, not, List, [], Option, Some, None, is_some, if◌then◌else◌, refl, sym, ap, ◌∙◌, subst, arith, inl, inr, append-nil}
 use Rattle.std.proofs.KnownBytes.{Appends-nil}
 use Rattle.cal_base.specs.declared.ends.RunEnd.{RunEnd}
 use Rattle.cal_base.specs.declared.ends.RunEnd.TheVariants.{Done, MainFault, StepFailed}
-use Rattle.cal_base.specs.Causes.{Rose, IsQuiet}
-use Rattle.cal_base.specs.Contents.{Contents, Told, SameFiles, AppendsPrefix}
-use Rattle.csl_tree.specs.declared.program.Program.{Program}
+use Rattle.cal_base.specs.Contents.{Contents, Told, SameFiles}
 use Rattle.csl_meaning.specs.Meaning.{meaning}
-use Rattle.command_words.specs.Commands.{Flags, Command, check, eval, run, sim, build, exec, gen, selfrun}
-use Rattle.calypso_cli.specs.Endings.{Part, files, out, worked, turned_away, failed, wanted_memory, Ending, done, no_command, cannot_load, cannot_write, refused, fault, no_memory, output_failed, script_refused, events_refused, too_long, module_refused, kind_of, status_of, err_text}
-use Rattle.calypso_cli.specs.Outcomes.{Sight, Outcome}
-use Rattle.calypso_cli.specs.Commands.{IsLoaded, IsWritten, CanEnd, RunsProgram, ended, usual_fuel, run_of, check_of}
+use Rattle.command_words.specs.Commands.{Flags, Command, check, eval, run}
+use Rattle.calypso_cli.specs.Endings.{Part, files, out, Ending, done, no_command, cannot_load, cannot_write, refused, fault, no_memory, output_failed, script_refused, events_refused, too_long, module_refused, kind_of, status_of, err_text}
+use Rattle.calypso_cli.specs.Outcomes.{Sight}
+use Rattle.calypso_cli.specs.Commands.{CanEnd, RunsProgram, ended, usual_fuel, run_of, check_of}
 use Rattle.calypso_cli.specs.Served.{is_usual, is_served, served}
-use Rattle.calypso_cli.specs.Promise.{Objects, Outside, faults_of, CountsStay, Worked, EndsByItself, MayEnd, for_memory, RunsAs, Touches, HoldsFront, as_before, HoldsFronts, Sees, OnSight, Gets, Works, DoesCommand, DoesNothing, KeepsPromise, MayUse, MayDo}
+use Rattle.calypso_cli.specs.Promise.{Objects, Outside, faults_of, CountsStay, Worked, for_memory, Touches, HoldsFront, as_before, HoldsFronts, Sees, Gets, Works, DoesCommand, DoesNothing, KeepsPromise, MayUse, MayDo}
 use Rattle.calypso_cli.proofs.Kept.{LoadsOne, itself_not}
 
 -- files that no call touched hold what they held

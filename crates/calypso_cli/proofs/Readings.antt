@@ -1,11 +1,10 @@
 -- A text is read as one program, or refused in one way; bytes are one module's.
-use Rattle.std.proofs.Common.{◌≡◌, ℕ, List, refl, sym, ap, ◌∙◌, subst}
+use Rattle.std.proofs.Common.{◌≡◌, ℕ, refl, sym, ap, ◌∙◌}
 use Rattle.csl_tree.specs.declared.program.Program.{Program}
 use Rattle.csl_reader.specs.declared.refusal.Refusal.{Refusal}
 use Rattle.csl_reader.specs.Readings as reading
 use Rattle.csl_reader.specs.Readings.{Reading, IsRead}
 use Rattle.csl_reader.specs.Laws.{ReadOneWay}
-use Rattle.bytecode.specs.declared.module.Module.{Module}
 use Rattle.bytecode.specs.Laws.{OneModulePerBytes}
 use Rattle.calypso_cli.specs.Endings.{Ending, refused}
 use Rattle.calypso_cli.specs.Commands.{IsRefusedText, IsModule, IsNoModule}

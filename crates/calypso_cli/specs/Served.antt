@@ -1,5 +1,5 @@
 -- Which commands are served today. Words whose command is not served end as words that give no command.
-use Rattle.std.specs.Prelude.{ℕ, Bool, true, false, not, ◌&&◌, ◌==◌, if◌then◌else◌, is_some, Option, None, Some}
+use Rattle.std.specs.Prelude.{Bool, true, false, not, ◌&&◌, ◌==◌, if◌then◌else◌, is_some, Option, None, Some}
 use Rattle.command_words.specs.Commands.{Flags, Command, check, eval, run, sim, build, exec, gen, selfrun}
 
 -- no option of a run is there, or each says what holds without it

@@ -1,10 +1,9 @@
 -- What the steps below the top call promise.
-use Rattle.std.specs.Prelude.{◌≡◌, ◌≤◌, ◌<◌, ℕ, List, length, IfSome, IsSomeAnd}
+use Rattle.std.specs.Prelude.{◌≤◌, ◌<◌, ℕ, List, length, IfSome, IsSomeAnd}
 use Rattle.std.specs.declared.option.Option.{Option}
 use Rattle.std.specs.Io.KnownBytes.{Appends}
 use Rattle.cal_base.specs.Causes.{Rose}
 use Rattle.cal_base.specs.Contents.{Contents, AppendsPrefix}
-use Rattle.csl_tree.specs.declared.program.Program.{Program}
 use Rattle.csl_grammar.specs.Texts.{text_limit}
 use Rattle.csl_reader.specs.declared.refusal.Refusal.{Refusal}
 use Rattle.csl_reader.specs.Readings as reading

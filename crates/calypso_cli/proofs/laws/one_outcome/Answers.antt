@@ -8,7 +8,7 @@ use Rattle.bytecode.specs.Laws.{OneModulePerBytes}
 use Rattle.machine_meaning.specs.Meaning.{machine_meaning}
 use Rattle.command_words.specs.Commands.{Flags, check, eval, run, sim, build, exec, gen, selfrun}
 use Rattle.csl_grammar.specs.Texts.{text_limit}
-use Rattle.calypso_cli.specs.Outcomes.{Sight, Outcome, Work, finished, Does, Creates}
+use Rattle.calypso_cli.specs.Outcomes.{Sight, Outcome, Work, Does, Creates}
 use Rattle.calypso_cli.specs.Commands.{IsRefusedText, IsModule, IsNoModule, module_limit, WithScript, run_of, check_of, build_of, usual_fuel}
 use Rattle.calypso_cli.specs.Laws.{ComesToOne}
 use Rattle.calypso_cli.proofs.Only.{one_load, one_create}

@@ -1,4 +1,4 @@
-use Rattle.std.proofs.Common.{◌≡◌, None, Err, map, string_bytes, ap, ◌∙◌}
+use Rattle.std.proofs.Common.{◌≡◌, None, Err, map, string_bytes, ap}
 use Rattle.command_words.specs.Words.{command_of}
 use Rattle.calypso_cli.specs.Served.{served}
 use Rattle.calypso_cli.proofs.Promises.{promise_of_none, promise_of_no_memory}

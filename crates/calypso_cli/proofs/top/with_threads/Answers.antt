@@ -1,4 +1,4 @@
-use Rattle.std.proofs.Common.{sym, ap, ◌∙◌, Some}
+use Rattle.std.proofs.Common.{sym, Some}
 use Rattle.command_words.specs.Seen.{command_seen}
 use Rattle.calypso_cli.specs.Served.{served}
 use Rattle.calypso_cli.specs.Seen.{ending_seen}
