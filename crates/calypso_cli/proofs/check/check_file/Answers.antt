@@ -1,8 +1,9 @@
 use Rattle.std.proofs.Common.{refl}
-use Rattle.calypso_cli.specs.Commands.{check, check_of}
+use Rattle.command_words.specs.Commands.{check}
+use Rattle.calypso_cli.specs.Commands.{check_of}
 use Rattle.calypso_cli.proofs.Kept.{does_stop, does_work}
 use Rattle.calypso_cli.proofs.Promises.{loads_check}
-use Rattle.calypso_cli.proofs.top.check_file.Goals as goal
+use Rattle.calypso_cli.proofs.check.check_file.Goals as goal
 
 pub returns-in-Ok-clause-works : goal.returns-in-Ok-clause-works
 returns-in-Ok-clause-works g c =

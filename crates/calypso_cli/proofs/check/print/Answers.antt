@@ -4,7 +4,7 @@ use Rattle.std.proofs.KnownBytes.{Appends-nil}
 use Rattle.cal_base.specs.Contents.{AppendsPrefix}
 use Rattle.csl_print.specs.Canonical.{canonical}
 use Rattle.calypso_cli.specs.Steps as step
-use Rattle.calypso_cli.proofs.run.print.Goals as goal
+use Rattle.calypso_cli.proofs.check.print.Goals as goal
 
 pub returns-in_default-clause-ends : goal.returns-in_default-clause-ends
 returns-in_default-clause-ends g c = step.no_room ([], refl, Appends-nil (g.S.Sink.written c.args.out.now))
