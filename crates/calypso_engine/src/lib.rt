@@ -5,8 +5,7 @@ pub mod engine;
 pub mod error;
 pub mod event;
 pub mod line;
-
 pub mod step;
 
-pub use error::RunError;
 pub use engine::{RunReport, run};
+pub use error::RunError;

@@ -69,5 +69,15 @@ pub fn open_step(
     ensures room { worker.new.words ≡ worker.old.words }
     ensures kinds { kinds_of image.new.memory ≡ kinds_of image.old.memory }
 {
-    named_step::<Brand>(alloc, step, image, code, first_block, widths, n, fuel, worker)
+    named_step::<Brand>(
+        alloc,
+        step,
+        image,
+        code,
+        first_block,
+        widths,
+        n,
+        fuel,
+        worker,
+    )
 }
