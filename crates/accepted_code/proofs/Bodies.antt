@@ -32,7 +32,6 @@ use Rattle.type_check.proofs.CleanLemmas.{none_in_first, none_in_second, accepte
 use Rattle.type_check.proofs.Facts.{within, function-body, function-params}
 use Rattle.bytecode.specs.declared.instr.Instr.{Instr}
 use Rattle.cal_terms.specs.declared.types.Ty.{Ty}
-use Rattle.cal_terms.specs.declared.types.Ty.TheVariants as ty
 use Rattle.bytecode.specs.declared.module.Code.{Code}
 use Rattle.compiled_code.specs.Slots.{with_slot, kind_of}
 use Rattle.compiled_code.specs.Sizes.{kinds_in, kinds_in_row, kinds_in_arms, kinds_in_last, steps_in, steps_in_row, steps_in_arms, steps_in_last}
@@ -270,10 +269,10 @@ module _ (p : Program) (accepted : IsAccepted p) (shared : (name : Text) (c : Co
           let globals = global_names p in
           let one = declare globals width_name (declared.Local type.Int) in
           let first = agrees_local p (module_of p) c (length p.functions) globals [] width_name type.Int 0 (globals_agree p accepted shared c) clean.0 refl in
-          let second = agrees_local p (module_of p) c (length p.functions) one (with_slot [] width_name.text 0 ty.Int) id_name type.Int 1 first clean.1 refl in
+          let second = agrees_local p (module_of p) c (length p.functions) one (with_slot [] width_name.text 0 type.Int) id_name type.Int 1 first clean.1 refl in
           row_fits p (module_of p) c (length p.functions) false Ok permits body.Routine globals refl refl false
           (declare one id_name (declared.Local type.Int)) (routine_slots width_name.text id_name.text) (beginning 2) statements
-          second (stands_behind (kinds_in_row statements) (ty.Int ∷ ty.Int ∷ [])) (λ main. no_room main) is spelled clean.2
+          second (stands_behind (kinds_in_row statements) (type.Int ∷ type.Int ∷ [])) (λ main. no_room main) is spelled clean.2
 
   -- main fits
   pub main_fits : FormIs p (variant.Block p.main) → FormSpelled (variant.Block p.main)

@@ -6,7 +6,7 @@ use Rattle.std.specs.Map.{lookup}
 use Rattle.std.proofs.Math.Seq.{get_or-append_seam}
 use Rattle.std.proofs.lemmas.Option.{slice_get-get_or}
 use Rattle.csl_tree.specs.declared.name.Name.{Name}
-use Rattle.cal_terms.specs.declared.types.Ty.{Ty as Type'}
+use Rattle.cal_terms.specs.declared.types.Ty.{Ty}
 use Rattle.csl_tree.specs.declared.program.Program.{Program}
 use Rattle.csl_tree.specs.declared.program.Form.{Form, Declare, Row_of-Stmt, end_of-Stmt, more_of-Stmt}
 use Rattle.csl_meaning.specs.Layout.{Text}
@@ -19,7 +19,6 @@ use Rattle.type_check.specs.Expressions.{value_faults}
 use Rattle.type_check.specs.Bodies.{after, after_row}
 use Rattle.type_check.specs.Statements.{faults, row_faults}
 use Rattle.type_check.proofs.CleanLemmas.{none_in_first, none_in_second, none_if}
-use Rattle.cal_terms.specs.declared.types.Ty.{Ty}
 use Rattle.bytecode.specs.declared.module.Code.{Code}
 use Rattle.bytecode.specs.declared.module.Module.{Module}
 use Rattle.accepted_code.proofs.Lookups.{bytes_same, bytes_turned, found_in, found_behind}
@@ -121,7 +120,7 @@ module _ (p : Program) (m : Module) (c : Code) (visible : ℕ) where
   means_same slots later t (Some (declared.Function d)) e h = (e ∙ h.0, h.1)
 
   -- after the declaration of a local without a fault
-  pub agrees_local : (names : Names) (slots : Slots) (name : Name) (ty : Type') (number : ℕ) → Agrees p m c visible names slots → taken names name ≡ [] → slice_get c.locals number ≡ Some (kind_of ty)
+  pub agrees_local : (names : Names) (slots : Slots) (name : Name) (ty : Ty) (number : ℕ) → Agrees p m c visible names slots → taken names name ≡ [] → slice_get c.locals number ≡ Some (kind_of ty)
       → Agrees p m c visible (declare names name (declared.Local ty)) (with_slot slots name.text number (kind_of ty))
   agrees_local names slots name ty number agrees free there t =
       subst (λ (o : Option Declaration). Means p m c visible (with_slot slots name.text number (kind_of ty)) t o) (sym (found_declared names name (declared.Local ty) t free))

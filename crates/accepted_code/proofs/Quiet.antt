@@ -43,7 +43,6 @@ use Rattle.type_check.specs.Faults as checked
 use Rattle.type_check.proofs.CleanLemmas.{none_in_first, none_in_second}
 use Rattle.bytecode.specs.declared.instr.Instr.{Instr}
 use Rattle.bytecode.specs.declared.instr.Instr.TheVariants as i
-use Rattle.cal_terms.specs.declared.types.Ty.{Ty as Kind}
 use Rattle.bytecode.specs.declared.module.Module.{Module}
 use Rattle.code_verify.specs.Rules.{IsTally}
 use Rattle.compiled_code.specs.Slots.{Slot, Slots, slot_of, with_slot, kind_of}
@@ -104,7 +103,7 @@ slot_behind (x ∷ slots) s t e = by (bytes_eq x.name t) e (slot_behind slots s 
         never h' = cc
     by false h go = go h
 
-abbrev slot_for : Name → ℕ → Kind → Slot
+abbrev slot_for : Name → ℕ → Ty → Slot
 slot_for name number kind = record { name = name.text; number = number; kind = kind }
 
 -- a place of a body, inside a loop or not
@@ -183,7 +182,7 @@ module _ (p : Program) (m : Module) (calm : ℕ → Type 0) where
   covered_still slots s t (Some (declared.Function d)) h = h
 
   -- after the declaration of a local
-  pub covers_local : (names : Names) (slots : Slots) (name : Name) (ty : Ty) (number : ℕ) (kind : Kind) → Covers names slots → Covers (declare names name (declared.Local ty)) (with_slot slots name.text number kind)
+  pub covers_local : (names : Names) (slots : Slots) (name : Name) (ty : Ty) (number : ℕ) (kind : Ty) → Covers names slots → Covers (declare names name (declared.Local ty)) (with_slot slots name.text number kind)
   covers_local names slots name ty number kind covers t = by (is_some (meant names name))
     where
       clash : bytes_eq name.text t ≡ true → bytes_eq name.text t ≡ false → ⊥

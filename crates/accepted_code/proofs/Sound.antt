@@ -8,7 +8,6 @@ use Rattle.cal_terms.specs.declared.types.Gives.TheVariants as result'
 use Rattle.bytecode.specs.declared.instr.Instr.{Instr}
 use Rattle.bytecode.specs.declared.instr.Instr.TheVariants as i
 use Rattle.cal_terms.specs.declared.types.Ty.TheVariants as ty
-use Rattle.cal_terms.specs.declared.types.Gives.{Gives}
 use Rattle.bytecode.specs.declared.module.Code.{Code}
 use Rattle.bytecode.specs.declared.module.Module.{Module}
 use Rattle.code_verify.specs.Kinds.{Kinds, result, below, after}
@@ -55,14 +54,14 @@ module _ (m : Module) (c : Code) (taken : Taken) (Ok : Instr → Type 0) (visibl
 
   closing_right : (g : Result) (at : ℕ) → c.gives ≡ gives_of g → length c.instrs ≡ at + length (closing g) → Held c.instrs at (closing g) → Held taken at (closing_taken g) → Right m c taken Ok at (closing g)
   closing_right result'.Nothing at same e h t =
-      (returns m c taken Ok at [] t.0 (ap (λ (g : Gives). option_map (λ rest. rest) (below (result g) [])) same) (omega arith) (permits.plain i.Return tt) (no_next at (omega (arith, e))), tt)
+      (returns m c taken Ok at [] t.0 (ap (λ (g : Result). option_map (λ rest. rest) (below (result g) [])) same) (omega arith) (permits.plain i.Return tt) (no_next at (omega (arith, e))), tt)
   closing_right result'.Int at same e h t = (
     falls m c taken Ok at (i.Int (pos 0)) [] (ty.Int ∷ []) tt h.0 t.0 tt refl (omega arith) (permits.ints (pos 0) (omega arith)) t.1.0,
-    (returns m c taken Ok (at + 1) (ty.Int ∷ []) t.1.0 (ap (λ (g : Gives). option_map (λ rest. rest) (below (result g) (ty.Int ∷ []))) same) (omega arith) (permits.plain i.Return tt) (no_next (at + 1) (omega (arith, e))), tt),
+    (returns m c taken Ok (at + 1) (ty.Int ∷ []) t.1.0 (ap (λ (g : Result). option_map (λ rest. rest) (below (result g) (ty.Int ∷ []))) same) (omega arith) (permits.plain i.Return tt) (no_next (at + 1) (omega (arith, e))), tt),
   )
   closing_right result'.Bool at same e h t = (
     falls m c taken Ok at i.False [] (ty.Bool ∷ []) tt h.0 t.0 tt refl (omega arith) (permits.plain i.False tt) t.1.0,
-    (returns m c taken Ok (at + 1) (ty.Bool ∷ []) t.1.0 (ap (λ (g : Gives). option_map (λ rest. rest) (below (result g) (ty.Bool ∷ []))) same) (omega arith) (permits.plain i.Return tt) (no_next (at + 1) (omega (arith, e))), tt),
+    (returns m c taken Ok (at + 1) (ty.Bool ∷ []) t.1.0 (ap (λ (g : Result). option_map (λ rest. rest) (below (result g) (ty.Bool ∷ []))) same) (omega arith) (permits.plain i.Return tt) (no_next (at + 1) (omega (arith, e))), tt),
   )
 
   -- each instruction of a right piece is allowed

@@ -21,8 +21,6 @@ use Rattle.bytecode.specs.declared.instr.Instr.{Instr}
 use Rattle.bytecode.specs.declared.instr.Instr.TheVariants as i
 use Rattle.cal_terms.specs.declared.types.Ty.{Ty}
 use Rattle.cal_terms.specs.declared.types.Ty.TheVariants as ty
-use Rattle.cal_terms.specs.declared.types.Gives.{Gives}
-use Rattle.cal_terms.specs.declared.types.Gives.TheVariants as gives
 use Rattle.bytecode.specs.declared.module.Code.{Code}
 use Rattle.bytecode.specs.declared.module.Module.{Module}
 use Rattle.code_verify.specs.Kinds.{Kinds, result, below, loads, after}
@@ -150,17 +148,17 @@ module _ (m : Module) (c : Code) (taken : Taken) (Ok : Instr → Type 0) (visibl
         tt,
       ))
 
-  pub return_right : (g : Gives) (given : Option Expr) (at : ℕ) → c.gives ≡ g → ReturnFits m c Ok p slots g given → ReturnSpelled given
+  pub return_right : (g : Result) (given : Option Expr) (at : ℕ) → c.gives ≡ g → ReturnFits m c Ok p slots g given → ReturnSpelled given
       → Held c.instrs at (return_code p slots given at) → Held taken at (return_taken p slots given) → KindsAt taken (at + (returned_size given + 1)) []
       → Right m c taken Ok at (return_code p slots given at)
-  return_right gives.Nothing None at same fit s h t end =
+  return_right result'.Nothing None at same fit s h t end =
       let last : at + (0 + 1) ≡ at + 1 = omega arith in
-      (returns m c taken Ok at [] t.0 (ap (λ (g : Gives). option_map (λ rest. rest) (below (result g) [])) same) (omega arith) (permits.plain i.Return tt) (λ within none. at_end taken [] (at + (0 + 1)) (at + 1) last end), tt)
-  return_right gives.Nothing (Some e) at same fit s h t end = absurd fit
-  return_right gives.Int None at same fit s h t end = absurd fit
-  return_right gives.Int (Some e) at same fit s h t end = value_returned ty.Int e at (ap result same) fit s h t end
-  return_right gives.Bool None at same fit s h t end = absurd fit
-  return_right gives.Bool (Some e) at same fit s h t end = value_returned ty.Bool e at (ap result same) fit s h t end
+      (returns m c taken Ok at [] t.0 (ap (λ (g : Result). option_map (λ rest. rest) (below (result g) [])) same) (omega arith) (permits.plain i.Return tt) (λ within none. at_end taken [] (at + (0 + 1)) (at + 1) last end), tt)
+  return_right result'.Nothing (Some e) at same fit s h t end = absurd fit
+  return_right result'.Int None at same fit s h t end = absurd fit
+  return_right result'.Int (Some e) at same fit s h t end = value_returned ty.Int e at (ap result same) fit s h t end
+  return_right result'.Bool None at same fit s h t end = absurd fit
+  return_right result'.Bool (Some e) at same fit s h t end = value_returned ty.Bool e at (ap result same) fit s h t end
 
   -- a result that is dropped
   drop_right : (g : Result) (at : ℕ) → Held c.instrs at (drop_code g) → Held taken at (drop_taken g) → KindsAt taken (at + drop_size g) [] → Right m c taken Ok at (drop_code g)

@@ -41,8 +41,6 @@ use Rattle.type_check.proofs.Facts.{within}
 use Rattle.bytecode.specs.declared.instr.Instr.{Instr}
 use Rattle.bytecode.specs.declared.instr.Instr.TheVariants as i
 use Rattle.cal_terms.specs.declared.types.Ty.{Ty}
-use Rattle.cal_terms.specs.declared.types.Ty.TheVariants as ty
-use Rattle.cal_terms.specs.declared.types.Gives.{Gives}
 use Rattle.bytecode.specs.declared.module.Code.{Code}
 use Rattle.bytecode.specs.declared.module.Module.{Module}
 use Rattle.code_verify.specs.Rules.{HasText}
@@ -165,8 +163,8 @@ have_texts p m slots (item.Text name ∷ rest) text few = (omega (arith, few), h
 have_texts p m slots (item.Value e ∷ rest) text few = (by (kind_in p slots e.node), have_texts p m slots rest text few)
   where
     by : (k : Ty) → HasText m (printed_kind k)
-    by ty.Int = tt
-    by ty.Bool = tt
+    by type.Int = tt
+    by type.Bool = tt
 
 blocks_long : {n : _} (blocks : Row_of-RoutineBlock n) → length (blocks_at blocks) ≡ length (blocks_in blocks)
 blocks_long end_of-RoutineBlock = refl
@@ -198,7 +196,7 @@ module _ (p : Program) (m : Module) (c : Code) (visible : ℕ) (main : Bool) (Ok
 
     -- a name that is added to
     add_fits : (name : Name) (o : Option Declaration) (k : Ty) → Means p m c visible slots name.text o → use_faults name o (as_scalar o) ≡ [] → same typed.Bool (as_scalar o) ≡ false → IsKind (as_scalar o) k
-        → (k ≡ ty.Int) × AddFits m c Ok p (slot_of slots name.text) (declared_area (area_of p.shared name.text))
+        → (k ≡ type.Int) × AddFits m c Ok p (slot_of slots name.text) (declared_area (area_of p.shared name.text))
     add_fits name None k h e int kind = absurd cc
     add_fits name (Some declared.Word) k h e int kind =
         let word = h.1 in (
@@ -219,7 +217,7 @@ module _ (p : Program) (m : Module) (c : Code) (visible : ℕ) (main : Bool) (Ok
     add_fits name (Some (declared.Function d)) k h e int kind = absurd cc
 
     -- an item of an array is an int
-    item_kind : (name : Name) (o : Option Declaration) (k : Ty) → use_faults name o (as_array o) ≡ [] → IsKind (as_array o) k → k ≡ ty.Int
+    item_kind : (name : Name) (o : Option Declaration) (k : Ty) → use_faults name o (as_array o) ≡ [] → IsKind (as_array o) k → k ≡ type.Int
     item_kind name None k e kind = absurd cc
     item_kind name (Some declared.Word) k e kind = absurd cc
     item_kind name (Some declared.Tally) k e kind = absurd cc
@@ -296,7 +294,7 @@ module _ (p : Program) (m : Module) (c : Code) (visible : ℕ) (main : Bool) (Ok
     abbrev here : Bool → Here
     here looped = record { body = body; looped = looped }
 
-    test_fits : (names : Names) (slots : Slots) → Agrees p m c visible names slots → (e : Expr) → value_faults body names typed.Bool e ≡ [] → ValueIs p e.node → ExprFits m c Ok p slots e ty.Bool
+    test_fits : (names : Names) (slots : Slots) → Agrees p m c visible names slots → (e : Expr) → value_faults body names typed.Bool e ≡ [] → ValueIs p e.node → ExprFits m c Ok p slots e type.Bool
     test_fits names slots agrees e none is = expr_fits p m c visible names slots agrees main Ok permits body typed.Bool e refl none is
 
     print_fits : (names : Names) (slots : Slots) → Agrees p m c visible names slots → (at : At) (where' : ℕ) (items : List Item) → Room main m at (item_texts items) [] → ItemsAre p items
@@ -379,7 +377,7 @@ module _ (p : Program) (m : Module) (c : Code) (visible : ℕ) (main : Bool) (Ok
       form_fits looped names slots at where' Break agrees there room is spelled h = tt
       form_fits looped names slots at where' Continue agrees there room is spelled h = tt
       form_fits looped names slots at where' (Return given) agrees there room is spelled h =
-          subst (λ (g : Gives). ReturnFits m c Ok p slots g given) (sym gives) (return_fits names slots agrees where' (result_of body) given h is)
+          subst (λ (g : Result). ReturnFits m c Ok p slots g given) (sym gives) (return_fits names slots agrees where' (result_of body) given h is)
       form_fits looped names slots at where' (form.CallOf (Call' name shape args)) agrees there room is spelled h = call_fits p m c visible names slots agrees main Ok permits body name args h is.1
       form_fits looped names slots at where' (Assert e) agrees there room is spelled h = test_fits names slots agrees e h is
       form_fits looped names slots at where' (Block' shape inner) agrees there room is spelled h = row_fits looped names slots at inner agrees there room is spelled h

@@ -1,4 +1,4 @@
--- An expression without faults fits, and its value is of the kind of its type.
+-- An expression without faults fits, and its value is of the kind of its ty.
 use Rattle.std.proofs.Common.{◌≡◌, ℕ, suc, Bool, true, false, ◌&&◌, if◌then◌else◌, List, [], ◌∷◌, ◌++◌, map, reverse, length, Option, Some, None, refl, sym, ap, ◌∙◌, subst, arith, append_assoc}
 use Rattle.std.specs.Prelude.{not, nat_eq, unwrap_or}
 use Rattle.std.proofs.lemmas.Grind.{reverse_onto}
@@ -6,8 +6,8 @@ use Rattle.csl_tree.specs.declared.name.Name.{Name}
 use Rattle.csl_tree.specs.declared.program.Program.{Program}
 use Rattle.cal_terms.specs.declared.types.Gives.{Gives as Result}
 use Rattle.cal_terms.specs.declared.types.Gives.TheVariants as result
-use Rattle.cal_terms.specs.declared.types.Ty.{Ty as Type'}
-use Rattle.cal_terms.specs.declared.types.Ty.TheVariants as type
+use Rattle.cal_terms.specs.declared.types.Ty.{Ty}
+use Rattle.cal_terms.specs.declared.types.Ty.TheVariants as ty
 use Rattle.csl_tree.specs.declared.program.UnaryOp.{UnaryOp}
 use Rattle.csl_tree.specs.declared.program.UnaryOp.TheVariants.{Neg, Not}
 use Rattle.csl_tree.specs.declared.program.BinaryOp.{BinaryOp}
@@ -32,8 +32,6 @@ use Rattle.type_check.specs.Expressions.{unary_operand, gives_type, operands_fit
 use Rattle.type_check.specs.Expressions as checked
 use Rattle.type_check.proofs.CleanLemmas.{none_in_first, none_in_second, none_if, wanted_same, operands_of, well_typed, box_well_typed}
 use Rattle.bytecode.specs.declared.instr.Instr.{Instr}
-use Rattle.cal_terms.specs.declared.types.Ty.{Ty}
-use Rattle.cal_terms.specs.declared.types.Ty.TheVariants as ty
 use Rattle.bytecode.specs.declared.module.Code.{Code}
 use Rattle.bytecode.specs.declared.module.Module.{Module}
 use Rattle.code_verify.specs.Kinds.{Kinds, below, parameters}
@@ -69,17 +67,17 @@ kind_wanted typed.Bool typed.Int k e h = absurd cc
 kind_wanted typed.Bool typed.Nothing k e h = absurd cc
 kind_wanted typed.Bool typed.Bad k e h = absurd cc
 
-pub kind_of_ty : (t : Type') (k : Ty) → IsKind (of_ty t) k → k ≡ kind_of t
-kind_of_ty type.Int k h = h
-kind_of_ty type.Bool k h = h
+pub kind_of_ty : (t : Ty) (k : Ty) → IsKind (of_ty t) k → k ≡ kind_of t
+kind_of_ty ty.Int k h = h
+kind_of_ty ty.Bool k h = h
 
-pub good_ty : (t : Type') → is_bad (of_ty t) ≡ false
-good_ty type.Int = refl
-good_ty type.Bool = refl
+pub good_ty : (t : Ty) → is_bad (of_ty t) ≡ false
+good_ty ty.Int = refl
+good_ty ty.Bool = refl
 
-is_kind_of : (t : Type') (k : Ty) → k ≡ kind_of t → IsKind (of_ty t) k
-is_kind_of type.Int k h = h
-is_kind_of type.Bool k h = h
+is_kind_of : (t : Ty) (k : Ty) → k ≡ kind_of t → IsKind (of_ty t) k
+is_kind_of ty.Int k h = h
+is_kind_of ty.Bool k h = h
 
 given_is : (g : Result) → IsKind (given g) (given_kind g)
 given_is result.Nothing = tt
@@ -351,7 +349,7 @@ module _ (p : Program) (m : Module) (c : Code) (visible : ℕ) (names : Names) (
       boxed_fits (more_of-Expr at node rest) e is = value_fits node e is
 
       -- arguments, which are of the kinds of the parameters
-      pub values_fit : {n : _} (tys : List Type') (r : Row_of-Expr n) → argument_faults body names tys r ≡ [] → count r ≡ length tys → ValuesAre p r → ValuesFit m c Ok p slots r × (kinds_of_row p slots r ≡ map kind_of tys)
+      pub values_fit : {n : _} (tys : List Ty) (r : Row_of-Expr n) → argument_faults body names tys r ≡ [] → count r ≡ length tys → ValuesAre p r → ValuesFit m c Ok p slots r × (kinds_of_row p slots r ≡ map kind_of tys)
       values_fit [] end_of-Expr e counts is = (tt, refl)
       values_fit (t ∷ tys) end_of-Expr e counts is = absurd cc
       values_fit [] (more_of-Expr at node rest) e counts is = absurd cc

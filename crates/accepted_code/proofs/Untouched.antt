@@ -33,7 +33,6 @@ use Rattle.type_check.proofs.CleanLemmas.{none_in_first, none_in_second, none_if
 use Rattle.type_check.proofs.Facts.{accepted-functions, first-function, other-functions, function-body}
 use Rattle.bytecode.specs.declared.instr.Instr.{Instr}
 use Rattle.bytecode.specs.declared.instr.Instr.TheVariants as i
-use Rattle.cal_terms.specs.declared.types.Ty.TheVariants as ty
 use Rattle.bytecode.specs.declared.module.Code.{Code}
 use Rattle.code_verify.specs.Rules.{Stands, ReadsOrSetsTally, UsesTally, Itself, Through, UsesNoTally}
 use Rattle.compiled_code.specs.Slots.{with_slot}
@@ -293,8 +292,8 @@ module _ (p : Program) where
     block_quiet (RoutineBlock' at width width_name id_name shape statements) clean =
         let globals = global_names p in
         let covers = all_covers [] p.functions (with_shared [] p.shared) (first_stage accepted plain) in
-        let with_width = covers_local p (module_of p) (IsCalm p) globals [] width_name type.Int 0 ty.Int covers in
-        let with_both = covers_local p (module_of p) (IsCalm p) (declare globals width_name (declared.Local type.Int)) (with_slot [] width_name.text 0 ty.Int) id_name type.Int 1 ty.Int with_width in
+        let with_width = covers_local p (module_of p) (IsCalm p) globals [] width_name type.Int 0 type.Int covers in
+        let with_both = covers_local p (module_of p) (IsCalm p) (declare globals width_name (declared.Local type.Int)) (with_slot [] width_name.text 0 type.Int) id_name type.Int 1 type.Int with_width in
         joined p (module_of p) (IsCalm p) (row_code p statements (routine_slots width_name.text id_name.text) (beginning 2) _) (i.Return ∷ [])
         (row_quiet p (module_of p) (IsCalm p) body.Routine refl globals statements false (declare (declare globals width_name (declared.Local type.Int)) id_name (declared.Local type.Int)) (routine_slots width_name.text id_name.text) (beginning 2) _
         with_both clean (record { none = ap (λ (xs : List Fault). list_any (λ x. is_tally_used x.kind) xs) clean }))

@@ -23,7 +23,6 @@ use Rattle.bytecode.specs.declared.instr.Instr.{Instr}
 use Rattle.bytecode.specs.declared.instr.Instr.TheVariants as i
 use Rattle.cal_terms.specs.declared.types.Ty.{Ty}
 use Rattle.cal_terms.specs.declared.types.Ty.TheVariants as ty
-use Rattle.cal_terms.specs.declared.types.Gives.{Gives}
 use Rattle.bytecode.specs.declared.module.Code.{Code}
 use Rattle.bytecode.specs.declared.module.Module.{Module}
 use Rattle.code_verify.specs.Kinds.{Kinds, result, below, parameters, loads, calls, after}
@@ -80,7 +79,7 @@ given_value result'.Bool ks h = refl
 
 call_leaves : (o : Option Code) (code : Code) (g : Result) (there ks : Kinds) → o ≡ Some code → below (parameters code) there ≡ Some ks → code.gives ≡ gives_of g → calls o there ≡ Some (result (gives_of g) ++ ks)
 call_leaves o code g there ks found takes same =
-    ap (λ (x : Option Code). calls x there) found ∙ ap (λ (x : Option Kinds). option_map (λ rest. result code.gives ++ rest) x) takes ∙ ap (λ (x : Gives). Some (result x ++ ks)) same
+    ap (λ (x : Option Code). calls x there) found ∙ ap (λ (x : Option Kinds). option_map (λ rest. result code.gives ++ rest) x) takes ∙ ap (λ (x : Result). Some (result x ++ ks)) same
 
 -- arguments and what is below them are no more than the longest list of operands
 args_short : {n : _} (args : Row_of-Expr n) (level : ℕ) → ValuesSpelled level args → (others : ℕ) → others + count args ≤ most_below level → others ≤ most_operands → others + count args ≤ most_operands

@@ -9,10 +9,10 @@ pub mod module;
 mod reading;
 mod writing;
 
+pub use cal_terms::Text;
 pub use fault::DecodeError;
 pub use fitting::has_spelling;
 pub use instr::{Instr, PrintItem};
 pub use module::{Code, Gives, Module, Ty};
 pub use reading::decode;
-pub use cal_terms::Text;
 pub use writing::encode;

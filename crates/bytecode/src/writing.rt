@@ -9,8 +9,7 @@ use crate::module::{Code, Gives, Module, Ty};
 use crate::reading::{
     BlockForm, FunctionForm, InitialForm, InstrForm, KindForm, NumberForm, PrintItemForm, TextForm,
 };
-use cal_terms::Text;
-use cal_terms::NoMemory;
+use cal_terms::{NoMemory, Text};
 use std::alloc::Global;
 
 /// A number in at most this many bytes.

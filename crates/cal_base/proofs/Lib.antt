@@ -4,3 +4,4 @@ pub mod Images
 pub mod Updates
 pub mod Pages
 pub mod Later
+pub mod Entries

@@ -16,3 +16,4 @@ pub mod Main
 pub mod Text
 pub mod Printing
 pub mod Widths
+pub mod Entries

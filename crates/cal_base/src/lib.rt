@@ -27,9 +27,7 @@ pub use job::JobName;
 pub use memory_files::MemFiles;
 pub use memory_sink::MemSink;
 pub use outside::{Failed, Files, Gate, LoadError, OpenGate, Point, Sink};
-pub use step::{
-    CALLER, Claimed, Entry, Verdict, Word, WorkerTally, arrival_bound, claim_bound,
-};
+pub use step::{CALLER, Claimed, Entry, Verdict, Word, WorkerTally, arrival_bound, claim_bound};
 pub use update::{KeptUpdate, UpdateWords};
 pub use value::{Store, Val};
 pub use whole::{append_all, write_all};

@@ -28,7 +28,7 @@ use Rattle.accepted_code.proofs.Named.{named_is}
 use Rattle.accepted_code.proofs.Parts.{spelled_program}
 use Rattle.accepted_code.proofs.SharedWords.{shared_means}
 use Rattle.accepted_code.proofs.Bodies.{few_params}
-use Rattle.compile_steps.specs.Lists.{texts_of, steps_of, StatementsAre}
+use Rattle.expression_code.specs.Lists.{texts_of, steps_of, StatementsAre}
 use Rattle.compile_steps.proofs.Bridges.{texts_row, steps_row}
 use Rattle.compile_steps.proofs.BodyLemmas.{body_shape}
 

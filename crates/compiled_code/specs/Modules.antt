@@ -15,8 +15,6 @@ use Rattle.csl_meaning.specs.Layout.{first_memory}
 use Rattle.bytecode.specs.declared.instr.Instr.{Instr}
 use Rattle.bytecode.specs.declared.instr.Instr.TheVariants as i
 use Rattle.cal_terms.specs.declared.types.Ty.TheVariants as ty
-use Rattle.cal_terms.specs.declared.types.Gives.{Gives}
-use Rattle.cal_terms.specs.declared.types.Gives.TheVariants as gives
 use Rattle.bytecode.specs.declared.module.Code.{Code}
 use Rattle.bytecode.specs.declared.module.Module.{Module}
 use Rattle.compiled_code.specs.Slots.{Slots, with_slot, kind_of}
@@ -41,10 +39,10 @@ closing result.Int = i.Int (pos 0) ∷ i.Return ∷ []
 closing result.Bool = i.False ∷ i.Return ∷ []
 
 -- what a code gives back
-abbrev pub gives_of : Result → Gives
-gives_of result.Nothing = gives.Nothing
-gives_of result.Int = gives.Int
-gives_of result.Bool = gives.Bool
+abbrev pub gives_of : Result → Result
+gives_of result.Nothing = result.Nothing
+gives_of result.Int = result.Int
+gives_of result.Bool = result.Bool
 
 -- the parameters of a function, in the first slots
 abbrev pub with_params : Slots → List Param → Slots
@@ -70,7 +68,7 @@ routine_slots width id = with_slot (with_slot [] width 0 ty.Int) id 1 ty.Int
 abbrev pub block_code : Program → RoutineBlock → Code
 block_code p (RoutineBlock' at width width_name id_name shape body) = record {
   params = 2;
-  gives = gives.Nothing;
+  gives = result.Nothing;
   locals = ty.Int ∷ ty.Int ∷ kinds_in_row body;
   instrs = row_code p body (routine_slots width_name.text id_name.text) (beginning 2) (ends_at (row_size p body (routine_slots width_name.text id_name.text) 2)) ++ i.Return ∷ [];
 }
@@ -79,7 +77,7 @@ block_code p (RoutineBlock' at width width_name id_name shape body) = record {
 abbrev pub main_code : Program → Code
 main_code p = record {
   params = 0;
-  gives = gives.Nothing;
+  gives = result.Nothing;
   locals = kinds_in (form.Block p.main);
   instrs = form_code p (form.Block p.main) [] (beginning 0) (ends_at (form_size p (form.Block p.main) [] 0)) ++ i.Return ∷ [];
 }

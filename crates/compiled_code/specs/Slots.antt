@@ -1,11 +1,9 @@
 -- Where the locals of a body are kept: each declaration of the body has a slot of its own, in the order of declaration.
 use Rattle.std.specs.Prelude.{ℕ, if◌then◌else◌, List, [], ◌∷◌, ◌++◌, Option, Some, None}
 use Rattle.std.specs.Str.{bytes_eq}
-use Rattle.cal_terms.specs.declared.types.Ty.{Ty as Type'}
-use Rattle.cal_terms.specs.declared.types.Ty.TheVariants as type
-use Rattle.csl_meaning.specs.Layout.{Text}
 use Rattle.cal_terms.specs.declared.types.Ty.{Ty}
 use Rattle.cal_terms.specs.declared.types.Ty.TheVariants as ty
+use Rattle.csl_meaning.specs.Layout.{Text}
 
 -- a visible local: its slot, and the kind of its value
 pub record Slot : Type 0 where
@@ -27,6 +25,6 @@ abbrev pub with_slot : Slots → Text → ℕ → Ty → Slots
 with_slot slots name number kind = slots ++ record { name = name; number = number; kind = kind } ∷ []
 
 -- the kind of a declared type
-abbrev pub kind_of : Type' → Ty
-kind_of type.Int = ty.Int
-kind_of type.Bool = ty.Bool
+abbrev pub kind_of : Ty → Ty
+kind_of ty.Int = ty.Int
+kind_of ty.Bool = ty.Bool

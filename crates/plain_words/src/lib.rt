@@ -20,7 +20,8 @@ pub struct PlainWords<'a> {
 
 impl<'a> Model for PlainWords<'a> {
     ghost use Rattle.std.specs.Prelude.{◌≡◌, ◌≤◌, length};
-    ghost use Rattle.plain_words.specs.Own.{Own, own_from};
+    ghost use Rattle.plain_words.specs.Own.{Own};
+    ghost use Rattle.cal_base.specs.Entries.{own_from};
 
     ghost Value = { Own };
 
@@ -87,9 +88,18 @@ impl<'a> PlainWords<'a> {
 }
 
 impl Words for PlainWords<'_> {
+    ghost use Rattle.std.specs.Prelude.{◌≡◌, refl};
+    ghost use Rattle.std.proofs.Common.{◌∙◌};
+
     ghost opening = { λ w. w.opening };
 
     ghost written = { λ w. w.written };
+
+    ghost keeps = { λ earlier later. later.opening ≡ earlier.opening };
+
+    ghost keeps_itself = { λ words. refl };
+
+    ghost keeps_on = { λ first second third one two. two ∙ one };
 
     fn read(&mut self, a: u32) -> i64 {
         match self.own(a) {

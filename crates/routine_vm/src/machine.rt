@@ -195,6 +195,7 @@ impl Machine {
         requires written { M.written mem.old ≡ empty }
         ensures outcome { IsOutcome (routine_outcome code.now (slice_index_or code.now.blocks block code.now.main) width id (M.opening mem.old) fuel) result (M.written mem.new) }
         ensures opening { M.opening mem.new ≡ M.opening mem.old }
+        ensures keeps { M.keeps mem.old mem.new }
         ensures main { self.new ≡ self.old }
     {
         let m = code.module();

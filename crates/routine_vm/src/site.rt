@@ -88,7 +88,7 @@ impl<M: Words> Site<M> for InRoutine {
 
     ghost store = { λ words. Routine (M.opening words) (M.written words) };
 
-    ghost leads = { λ earlier later. M.opening later ≡ M.opening earlier };
+    ghost leads = { λ earlier later. (M.opening later ≡ M.opening earlier) × M.keeps earlier later };
 
     fn read(words: &mut M, a: u32) -> i64 {
         words.read(a)
@@ -102,9 +102,9 @@ impl<M: Words> Site<M> for InRoutine {
         words.add(a, v)
     }
 
-    ghost keeps = { λ earlier later one. ap kinds_of one };
+    ghost keeps = { λ earlier later one. ap kinds_of one.0 };
 
-    ghost stays = { λ w. refl };
+    ghost stays = { λ w. (refl, M.keeps_itself w) };
 
-    ghost joins = { λ first second third one two. two ∙ one };
+    ghost joins = { λ first second third one two. (two.0 ∙ one.0, M.keeps_on first second third one.1 two.1) };
 }

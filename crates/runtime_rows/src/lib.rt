@@ -12,3 +12,5 @@ mod modules;
 mod outside;
 #[cfg(test)]
 mod rules;
+#[cfg(test)]
+mod shared;

@@ -1,4 +1,6 @@
-use bytecode::{Code, DecodeError, Gives, Instr, Module, PrintItem, Text, Ty, decode, encode, has_spelling};
+use bytecode::{
+    Code, DecodeError, Gives, Instr, Module, PrintItem, Text, Ty, decode, encode, has_spelling,
+};
 use sqlite_items::Items;
 use std::alloc::Global;
 use std::test::*;

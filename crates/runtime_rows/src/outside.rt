@@ -1,5 +1,6 @@
 use cal_base::{
-    Failed, Files, Gate, HostFiles, HostSink, MemFiles, MemSink, OpenGate, Point, Sink, append_all, write_all,
+    Failed, Files, Gate, HostFiles, HostSink, MemFiles, MemSink, OpenGate, Point, Sink, append_all,
+    write_all,
 };
 use cal_terms::NoMemory;
 use std::alloc::Global;

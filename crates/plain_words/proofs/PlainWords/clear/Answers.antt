@@ -1,6 +1,7 @@
 use Rattle.std.proofs.Common.{rules, ◌≡◌, ◌∙◌, List, ap, vec_len}
-use Rattle.plain_words.specs.Own.{Own, own_from}
-use Rattle.plain_words.proofs.Entries.{own_none}
+use Rattle.plain_words.specs.Own.{Own}
+use Rattle.cal_base.specs.Entries.{own_from}
+use Rattle.cal_base.proofs.Entries.{own_none}
 use Rattle.std.specs.FinMap.{empty}
 use Rattle.plain_words.proofs.PlainWords.clear.Goals as goal
 

@@ -1,7 +1,7 @@
 use Rattle.std.proofs.Common.{◌∙◌, ◌<◌, length, None, sym, ap, arith}
 use Rattle.std.specs.FinMap.{get}
 use Rattle.plain_words.specs.Own.{Own}
-use Rattle.plain_words.proofs.Entries.{get_own, same_default}
+use Rattle.cal_base.proofs.Entries.{get_own, same_default}
 use Rattle.plain_words.proofs.PlainWords.own.Goals as goal
 
 pub returns : goal.returns

@@ -2,7 +2,7 @@ use Rattle.std.proofs.Common.{◌<◌, length, ap, rules, SFits, w64, arith}
 use Rattle.std.specs.FinMap.{insert}
 use Rattle.std.proofs.lemmas.Int.{to_z-of_z}
 use Rattle.plain_words.specs.Own.{Own}
-use Rattle.plain_words.proofs.Entries.{own_put}
+use Rattle.cal_base.proofs.Entries.{own_put}
 use Rattle.plain_words.proofs.PlainWords.put.Goals as goal
 
 pub returns : goal.returns

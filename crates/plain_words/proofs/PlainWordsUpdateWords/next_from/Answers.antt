@@ -3,7 +3,7 @@ use Rattle.std.proofs.lemmas.Bool.{cases_lt}
 use Rattle.std.specs.FinMap.{get}
 use Rattle.cal_base.specs.Updates.{IsBelow}
 use Rattle.plain_words.specs.Own.{Own}
-use Rattle.plain_words.proofs.Entries.{own_below, own_past}
+use Rattle.cal_base.proofs.Entries.{own_below, own_past}
 use Rattle.plain_words.proofs.PlainWordsUpdateWords.next_from.Goals as goal
 
 pub returns-in-Some-clause-addresses : goal.returns-in-Some-clause-addresses

@@ -1,0 +1,46 @@
+-- Commands and parts of the code, as contracts see them.
+use Rattle.std.specs.Prelude.{option_map, string_bytes}
+use Rattle.command_words.specs.declared.command.Flags.{Flags}
+use Rattle.command_words.specs.declared.command.Command.{Command}
+use Rattle.command_words.specs.declared.command.Command.TheVariants.{Check, Eval, Run, Sim, Build, Exec, Gen, Selfrun}
+use Rattle.command_words.specs.declared.part.Part.{Part}
+use Rattle.command_words.specs.declared.part.Part.TheVariants.{Operand, Valued, Flag}
+use Rattle.command_words.specs.declared.part.Saying.{Saying}
+use Rattle.command_words.specs.declared.part.Saying.TheVariants.{Says, Opens, Wrong}
+use Rattle.command_words.specs.Commands as spec
+use Rattle.command_words.specs.Words as words
+
+-- the options of a run
+abbrev pub flags_seen : Flags → spec.Flags
+flags_seen flags = record {
+  workers = flags.workers;
+  fuel = flags.fuel;
+  frames = flags.frames;
+  script = option_map string_bytes flags.script;
+  log = option_map string_bytes flags.log;
+  report = flags.report;
+  steps = flags.steps;
+}
+
+-- the command
+abbrev pub command_seen : Command → spec.Command
+command_seen (Check file) = spec.check (string_bytes file)
+command_seen (Eval file) = spec.eval (string_bytes file)
+command_seen (Run file flags) = spec.run (string_bytes file) (flags_seen flags)
+command_seen (Sim file events log) = spec.sim (string_bytes file) (string_bytes events) (option_map string_bytes log)
+command_seen (Build file into) = spec.build (string_bytes file) (string_bytes into)
+command_seen (Exec file flags) = spec.exec (string_bytes file) (flags_seen flags)
+command_seen (Gen number size) = spec.gen number size
+command_seen (Selfrun number size) = spec.selfrun number size
+
+-- the part of a command line
+abbrev pub part_seen : Part → words.Part
+part_seen (Operand text) = words.operand text.now
+part_seen (Valued setting value) = words.option setting value.now
+part_seen (Flag setting) = words.flag setting
+
+-- what a word says
+abbrev pub saying_seen : Saying → words.Saying
+saying_seen (Says part) = words.says (part_seen part)
+saying_seen (Opens setting) = words.opens setting
+saying_seen Wrong = words.wrong

@@ -1,0 +1,4 @@
+pub mod Shelves
+pub mod Fitting
+pub mod Held
+pub mod Giving

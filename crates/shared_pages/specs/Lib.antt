@@ -1,0 +1,4 @@
+pub mod Kept
+pub mod Shelf
+pub mod Cached
+pub mod Holding

@@ -1,0 +1,5 @@
+//! What a routine wrote and added, kept apart from the pages that it reads, in frames of a pool.
+#![tactic(auto)]
+
+mod bits;
+mod marks;
