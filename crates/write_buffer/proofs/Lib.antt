@@ -1,2 +1,5 @@
 pub mod Masks
 pub mod Touched
+pub mod Written
+pub mod Frames
+pub mod WordKinds

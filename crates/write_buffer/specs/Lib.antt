@@ -1,2 +1,4 @@
 pub mod Bits
 pub mod Marks
+pub mod Buffered
+pub mod Held

@@ -2,4 +2,7 @@
 #![tactic(auto)]
 
 mod bits;
+pub mod buffer;
 mod marks;
+
+pub use buffer::WriteBuffer;
