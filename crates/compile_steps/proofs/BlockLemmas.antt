@@ -14,8 +14,8 @@ use Rattle.bytecode.specs.declared.module.Code.{Code}
 use Rattle.compiled_code.specs.Sizes.{steps_in}
 use Rattle.compiled_code.specs.Modules.{block_code}
 use Rattle.compiled_code.specs.Shape.{FormIs, BlocksAre}
-use Rattle.compile_steps.specs.Lists.{steps_of, steps_of_arms, steps_of_last, RoutinesAre}
-use Rattle.compile_steps.proofs.RowLemmas.{blocks_is}
+use Rattle.expression_code.specs.Lists.{steps_of, steps_of_arms, steps_of_last, RoutinesAre}
+use Rattle.expression_code.proofs.RowLemmas.{blocks_is}
 use Rattle.compile_steps.proofs.Bridges.{steps_row, steps_if, row_are}
 
 pub steps_block : (f : Form) (body : List Stmt) → f ≡ form.Block body → steps_in f ≡ steps_of body

@@ -15,10 +15,10 @@ use Rattle.compiled_code.specs.Places.{row_size}
 use Rattle.compiled_code.specs.Statements.{row_code}
 use Rattle.compiled_code.specs.Modules.{beginning, ends_at, closing, gives_of, with_params, function_code, routine_slots, block_code, main_code}
 use Rattle.compiled_code.specs.Shape.{FormIs}
-use Rattle.compile_steps.proofs.RowLemmas.{kinds_row}
-use Rattle.compile_steps.proofs.StatementSizes.{row_is}
+use Rattle.expression_code.proofs.RowLemmas.{kinds_row}
+use Rattle.expression_code.proofs.StatementSizes.{row_is}
 use Rattle.compile_steps.proofs.Bridges.{row_code_is, row_are}
-use Rattle.compile_steps.specs.Lists.{kinds_of, statements_size, statements_code, StatementsAre}
+use Rattle.expression_code.specs.Lists.{kinds_of, statements_size, statements_code, StatementsAre}
 
 module _ (p : Program) where
   -- the code of a body, with its own end as both exits

@@ -1,13 +1,7 @@
-pub mod AreaLemmas
 pub mod BlockLemmas
 pub mod BodyLemmas
 pub mod Bridges
-pub mod Codes
-pub mod ListLemmas
 pub mod ModuleLemmas
-pub mod RowLemmas
 pub mod SharedLemmas
-pub mod SizeLemmas
-pub mod StatementSizes
 pub mod TextLemmas
 pub mod Written

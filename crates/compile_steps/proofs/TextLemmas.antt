@@ -8,7 +8,7 @@ use Rattle.csl_tree.specs.declared.program.Form.{Form, more_of-Arm}
 use Rattle.csl_tree.specs.declared.program.Form.TheVariants as form
 use Rattle.csl_tree.specs.declared.program.Form.TheBlock.{shape-the_row-Stmt-1, hidden-the_row-Stmt-1, shape-the_row-Arm-0, hidden-the_row-Arm-0}
 use Rattle.compiled_code.specs.Sizes.{texts_in, texts_in_row, texts_in_arms}
-use Rattle.compile_steps.specs.Lists.{texts_of, texts_of_arms}
+use Rattle.expression_code.specs.Lists.{texts_of, texts_of_arms}
 
 texts_row : (body : List Stmt) → texts_in_row (hidden-the_row-Stmt-1 body) ≡ texts_of body
 unfolding shape-the_row-Stmt-1 hidden-the_row-Stmt-1 hidden

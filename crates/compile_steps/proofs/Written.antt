@@ -25,12 +25,12 @@ use Rattle.compiled_code.specs.Values.{code_of}
 use Rattle.compiled_code.specs.Statements.{At, Exits, set_code, add_to_code, past, beyond, widths_code, form_code}
 use Rattle.compiled_code.specs.Shape.{FormIs, IsSimple, IsChange}
 use Rattle.compiled_code.proofs.Lengths.{both, expr_length, form_length}
-use Rattle.compile_steps.specs.declared.writer.Writer.{Writer}
+use Rattle.expression_code.specs.declared.writer.Writer.{Writer}
 use Rattle.compile_steps.specs.declared.statements.Around.{Around}
-use Rattle.compile_steps.specs.Scopes.{Scoped}
-use Rattle.compile_steps.specs.Lists.{kinds_of, kinds_of_arms, kinds_of_last, texts_of, texts_of_arms, texts_of_last, steps_of, steps_of_arms, steps_of_last, slots_after_all, statements_size, step_size, all_arms_size, beyond_all, beyond_all_arms, statements_code, all_arms_code, last_block_code}
+use Rattle.expression_code.specs.Scopes.{Scoped}
+use Rattle.expression_code.specs.Lists.{kinds_of, kinds_of_arms, kinds_of_last, texts_of, texts_of_arms, texts_of_last, steps_of, steps_of_arms, steps_of_last, slots_after_all, statements_size, step_size, all_arms_size, beyond_all, beyond_all_arms, statements_code, all_arms_code, last_block_code}
 use Rattle.compile_steps.specs.Writing.{here, Wrote, WroteCode, WroteTest, WroteStep, WroteForm, WroteAll, WroteBlock, WroteArms, WroteLast, WroteWhile}
-use Rattle.compile_steps.proofs.RowLemmas.{slots_grow, block_ends, kinds_row, kinds_if, kinds_for, blocks_is}
+use Rattle.expression_code.proofs.RowLemmas.{slots_grow, block_ends, kinds_row, kinds_if, kinds_for, blocks_is}
 use Rattle.compile_steps.proofs.Bridges.{texts_row, steps_row, texts_if, steps_if, row_code_is, if_code_is, while_code_is, for_code, for_code_is, ForIs, is_for}
 
 -- ---- lengths

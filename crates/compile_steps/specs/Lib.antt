@@ -1,4 +1,1 @@
-pub mod Scopes
-pub mod Lists
 pub mod Writing
-pub mod Areas

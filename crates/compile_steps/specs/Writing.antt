@@ -16,9 +16,9 @@ use Rattle.compiled_code.specs.Sizes.{size_of, kinds_in, texts_in, steps_in, ite
 use Rattle.compiled_code.specs.Places.{slots_after}
 use Rattle.compiled_code.specs.Values.{code_of}
 use Rattle.compiled_code.specs.Statements.{At, Exits, form_code, items_code, printed_items, widths_code}
-use Rattle.compile_steps.specs.declared.writer.Writer.{Writer}
+use Rattle.expression_code.specs.declared.writer.Writer.{Writer}
 use Rattle.compile_steps.specs.declared.statements.Around.{Around}
-use Rattle.compile_steps.specs.Lists.{statements_size, step_size, slots_after_all, kinds_of, kinds_of_arms, kinds_of_last, texts_of, texts_of_arms, texts_of_last, steps_of, steps_of_arms, steps_of_last, statements_code, all_arms_code, last_block_code, while_code}
+use Rattle.expression_code.specs.Lists.{statements_size, step_size, slots_after_all, kinds_of, kinds_of_arms, kinds_of_last, texts_of, texts_of_arms, texts_of_last, steps_of, steps_of_arms, steps_of_last, statements_code, all_arms_code, last_block_code, while_code}
 
 -- where the next statement's code begins, and its locals, texts and blocks
 abbrev pub here : Writer → At

@@ -4,13 +4,13 @@ ghost use Rattle.std.specs.Prelude.{◌≡◌, ◌++◌, map, OnOk};
 ghost use Rattle.compiled_code.specs.Sizes.{steps_in};
 ghost use Rattle.compiled_code.specs.Modules as modules;
 ghost use Rattle.compiled_code.specs.Shape.{FormIs};
-ghost use Rattle.compile_steps.specs.Lists.{steps_of, steps_of_arms, StatementsAre, AllArmsAre, RoutinesAre};
+ghost use Rattle.expression_code.specs.Lists.{steps_of, steps_of_arms, StatementsAre, AllArmsAre, RoutinesAre};
 
 use crate::bodies::block_code;
-use crate::names::Names;
 use bytecode::Code;
 use cal_terms::NoMemory;
 use csl_tree::program::{Arm, Form, RoutineBlock, Stmt};
+use expression_code::names::Names;
 use sqlite_items::Items;
 use std::alloc::Global;
 

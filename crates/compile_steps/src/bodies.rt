@@ -4,18 +4,18 @@ ghost use Rattle.std.specs.Prelude.{◌≡◌, ◌+◌, ◌≤◌, ◌++◌, len
 ghost use Rattle.csl_tree.specs.declared.program.RoutineBlock.{out-RoutineBlock};
 ghost use Rattle.compiled_code.specs.Slots.{kind_of as kind_of_type};
 ghost use Rattle.compiled_code.specs.Modules as modules;
-ghost use Rattle.compile_steps.specs.Lists.{statements_size, statements_code, StatementsAre};
+ghost use Rattle.expression_code.specs.Lists.{statements_size, statements_code, StatementsAre};
 
-use crate::kinds::push_kinds;
-use crate::names::Names;
-use crate::scope::{Scope, kind_of};
-use crate::sizes::loop_sizes;
 use crate::statements::push_block;
-use crate::writer::Writer;
 use bytecode::{Code, Gives, Instr, Ty};
 use cal_terms::NoMemory;
 use csl_tree::program as tree;
 use csl_tree::program::{Function, Param, RoutineBlock, Stmt};
+use expression_code::kinds::push_kinds;
+use expression_code::names::Names;
+use expression_code::scope::{Scope, kind_of};
+use expression_code::sizes::loop_sizes;
+use expression_code::writer::Writer;
 use sqlite_items::Items;
 use std::alloc::Global;
 

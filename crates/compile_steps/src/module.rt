@@ -12,13 +12,13 @@ ghost use Rattle.accepted_code.specs.Laws.{HasBytes};
 
 use crate::blocks::push_blocks;
 use crate::bodies::{function_code, main_code};
-use crate::names::Names;
 use crate::texts::{hold_bytes, push_texts};
 use crate::words::push_words;
 use bytecode::{Code, Module};
 use cal_terms::NoMemory;
 use code_verify::{Verified, VerifyError, verify};
 use csl_tree::program::{Function, Program};
+use expression_code::names::Names;
 use sqlite_items::Items;
 use std::alloc::Global;
 use type_check::checked::Checked;

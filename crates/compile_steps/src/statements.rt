@@ -4,19 +4,19 @@ ghost use Rattle.std.specs.Prelude.{◌≡◌, ◌+◌, ◌++◌, length, IfOk, 
 ghost use Rattle.compiled_code.specs.Shape.{FormIs};
 ghost use Rattle.compiled_code.specs.Sizes.{item_texts};
 ghost use Rattle.compiled_code.specs.Statements as statements;
-ghost use Rattle.compile_steps.specs.Lists.{StatementsAre, AllArmsAre, LastBlockIs};
+ghost use Rattle.expression_code.specs.Lists.{StatementsAre, AllArmsAre, LastBlockIs};
 ghost use Rattle.compile_steps.specs.Writing.{WroteCode, WroteDeclare, WroteTest, WrotePrint, WroteStep, WroteForm, WroteAll, WroteBlock, WroteArms, WroteLast, WroteWhile};
 ghost use Rattle.std.specs.Option.{option_copied};
 
-use crate::names::Names;
-use crate::scope::kind_of;
-use crate::sizes::{loop_sizes, size_here};
-use crate::values::{printed_items, push_call, push_items, push_value, push_widths};
-use crate::writer::{Writer, length_of, sum};
 use bytecode::Instr;
 use cal_terms::NoMemory;
 use csl_tree::name::Text;
 use csl_tree::program::{Arm, Call, Expr, Form, Gives, Item, Place, RoutineBlock, Stmt, Ty};
+use expression_code::names::Names;
+use expression_code::scope::kind_of;
+use expression_code::sizes::{loop_sizes, size_here};
+use expression_code::values::{printed_items, push_call, push_items, push_value, push_widths};
+use expression_code::writer::{Writer, length_of, sum};
 use sqlite_items::Items;
 use std::alloc::Global;
 

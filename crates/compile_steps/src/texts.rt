@@ -4,7 +4,7 @@ ghost use Rattle.std.specs.Prelude.{◌≡◌, ◌++◌, OnOk};
 ghost use Rattle.compiled_code.specs.Sizes.{texts_in, item_texts};
 ghost use Rattle.std.specs.List.{AllByRecursion};
 ghost use Rattle.bytecode.specs.Spelling.{FitsByte};
-ghost use Rattle.compile_steps.specs.Lists.{texts_of, texts_of_arms};
+ghost use Rattle.expression_code.specs.Lists.{texts_of, texts_of_arms};
 
 use bytecode::Text;
 use cal_terms::NoMemory;

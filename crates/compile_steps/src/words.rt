@@ -5,10 +5,10 @@ ghost use Rattle.std.specs.Ordering.{int_eq};
 ghost use Rattle.csl_meaning.specs.Layout.{words_in, first_words, first_memory};
 ghost use Rattle.compiled_code.specs.Modules.{tallies_from, initial_from};
 
-use crate::names::items_in;
-use crate::writer::{length_of, sum};
 use cal_terms::{NoMemory, WordKind};
 use csl_tree::program::Shared;
+use expression_code::names::items_in;
+use expression_code::writer::{length_of, sum};
 use sqlite_items::Items;
 
 /// Appends the addresses of a declaration's words, if they are tally words. Its words begin at `first`.

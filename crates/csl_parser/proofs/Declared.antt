@@ -14,15 +14,15 @@ use Rattle.csl_tree.specs.declared.token.Mark.TheVariants as mark
 use Rattle.csl_tree.specs.declared.program.ArraySize.{ArraySize}
 use Rattle.csl_tree.specs.declared.program.Valued.{Valued}
 use Rattle.csl_tree.specs.declared.program.Shared.{Shared}
-use Rattle.csl_parser.specs.declared.ParseError.{ParseError}
+use Rattle.expression_parser.specs.declared.ParseError.{ParseError}
 use Rattle.csl_grammar.specs.Stops.{IsEnded, BeginsOtherThan}
 use Rattle.csl_grammar.specs.Programs.{Each, MoreOf, ListOf, nothing, SpellsValue, plain, minus, SpellsInitial, unlisted, listed, SpellsShared, scalar, array, tally}
 use Rattle.csl_grammar.proofs.UniqueParts.{unique_value, unique_values, no_value_closes}
-use Rattle.csl_parser.specs.Reading.{Found, Refused, Fails, Answers, IsToken, Tok, tok, NameTok, name_tok, SizeTok, size_tok, Ret, ret, Then, seq, Either, this, that, ListUntil, MoreUntil, behind, number_of, natural_of, if_natural, stops_anywhere}
+use Rattle.expression_parser.specs.Reading.{Found, Refused, Fails, Answers, IsToken, Tok, tok, NameTok, name_tok, SizeTok, size_tok, Ret, ret, Then, seq, Either, this, that, ListUntil, MoreUntil, behind, number_of, natural_of, if_natural, stops_anywhere}
 use Rattle.csl_parser.specs.Chains.{scalar_of, tally_of, array_of, TallyRest, IntRest, AfterName, ArrayRest, AfterSize, ListedRest}
-use Rattle.csl_parser.proofs.Sequence.{Passes, Same, passes_same, passes_behind, passes_through, passed, passed_error, refused_here}
-use Rattle.csl_parser.proofs.Single.{some_token, ended_behind, token_found}
-use Rattle.csl_parser.proofs.Then.{Completes, Follows, completes_ret, completes_tok, completes_name, completes_size, completes_then, completes_this, completes_list, tok_follows, name_follows, size_follows, then_passes, tok_found, passes_this, passes_that, begins_other, no_name, list_nothing, list_err, list_begun, more_err, more_step, last_err, last_ok}
+use Rattle.expression_parser.proofs.Sequence.{Passes, Same, passes_same, passes_behind, passes_through, passed, passed_error, refused_here}
+use Rattle.expression_parser.proofs.Single.{some_token, ended_behind, token_found}
+use Rattle.expression_parser.proofs.Then.{Completes, Follows, completes_ret, completes_tok, completes_name, completes_size, completes_then, completes_this, completes_list, tok_follows, name_follows, size_follows, then_passes, tok_found, passes_this, passes_that, begins_other, no_name, list_nothing, list_err, list_begun, more_err, more_step, last_err, last_ok}
 
 -- ---- what completes a declaration
 

@@ -15,16 +15,16 @@ use Rattle.csl_tree.specs.declared.program.Shared.{Shared}
 use Rattle.csl_tree.specs.declared.program.Function.{Function}
 use Rattle.csl_tree.specs.declared.program.Program.{Program}
 use Rattle.csl_tree.specs.declared.program.Stmt.{Stmt}
-use Rattle.csl_parser.specs.declared.ParseError.{ParseError}
+use Rattle.expression_parser.specs.declared.ParseError.{ParseError}
 use Rattle.csl_grammar.specs.Stops.{IsEnded, BeginsOtherThan}
 use Rattle.csl_grammar.specs.Programs.{Each, MoreOf, ListOf, type_word, result_word, SpellsShared, SpellsParam, param, SpellsFunction, function, SpellsBlock, braces, none}
 use Rattle.csl_grammar.proofs.UniqueParts.{type_word-same, unique_shared, unique_param, unique_params, no_param_closes}
 use Rattle.csl_grammar.proofs.UniqueProgram.{result_word-same, unique_block, unique_function, unique_each, no_shared, no_function}
-use Rattle.csl_parser.specs.Reading.{Found, Refused, Fails, Answers, IsToken, Tok, tok, NameTok, name_tok, Ret, ret, Then, seq, ListUntil, MoreUntil, Until, behind, stops_anywhere}
+use Rattle.expression_parser.specs.Reading.{Found, Refused, Fails, Answers, IsToken, Tok, tok, NameTok, name_tok, Ret, ret, Then, seq, ListUntil, MoreUntil, Until, behind, stops_anywhere}
 use Rattle.csl_parser.specs.Program.{param_of, function_of, program_of, ParamRest, ParamsRest, FunctionRest, MainRest, FunctionsRest, ProgramTokens}
-use Rattle.csl_parser.proofs.Sequence.{Passes, passes_same, refused_here}
-use Rattle.csl_parser.proofs.Single.{some_token}
-use Rattle.csl_parser.proofs.Then.{Completes, Follows, completes_ret, completes_tok, completes_name, completes_then, completes_list, completes_until, tok_follows, name_follows, no_name, list_nothing, list_err, list_begun, more_err, more_step, last_err, last_ok, until_done, until_err, until_more}
+use Rattle.expression_parser.proofs.Sequence.{Passes, passes_same, refused_here}
+use Rattle.expression_parser.proofs.Single.{some_token}
+use Rattle.expression_parser.proofs.Then.{Completes, Follows, completes_ret, completes_tok, completes_name, completes_then, completes_list, completes_until, tok_follows, name_follows, no_name, list_nothing, list_err, list_begun, more_err, more_step, last_err, last_ok, until_done, until_err, until_more}
 
 abbrev round : TokenKind
 round = kind.Mark mark.CloseParen

@@ -1,12 +1,4 @@
-pub mod Sequence
-pub mod Single
-pub mod Rules
-pub mod Steps
-pub mod Then
 pub mod Declared
-pub mod StatementParts
-pub mod Leaves
-pub mod Nested
 pub mod Functions
 pub mod Whole
 pub mod Depth

@@ -10,8 +10,8 @@ use Rattle.csl_grammar.specs.Programs.{SpellsProgram}
 use Rattle.csl_grammar.specs.Spelling.{IsUnexpected}
 use Rattle.csl_grammar.specs.Stops.{IsEnded}
 use Rattle.csl_grammar.proofs.UniqueProgram.{unique_program}
-use Rattle.csl_parser.specs.declared.ParseError.{ParseError}
-use Rattle.csl_parser.specs.declared.ParseError.TheVariants as error
+use Rattle.expression_parser.specs.declared.ParseError.{ParseError}
+use Rattle.expression_parser.specs.declared.ParseError.TheVariants as error
 use Rattle.csl_parser.specs.Program.{Tells, TellsDepth}
 
 ends_alone : (place : ℕ) (tokens : List Token) → EndsAt place tokens → IsEnded tokens

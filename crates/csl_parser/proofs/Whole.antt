@@ -5,15 +5,15 @@ use Rattle.csl_tree.specs.declared.token.TokenKind.TheVariants as kind
 use Rattle.csl_tree.specs.declared.program.Shared.{Shared}
 use Rattle.csl_tree.specs.declared.program.Function.{Function}
 use Rattle.csl_tree.specs.declared.program.Program.{Program}
-use Rattle.csl_parser.specs.declared.ParseError.{ParseError}
-use Rattle.csl_parser.specs.declared.ParseError.TheVariants as error
+use Rattle.expression_parser.specs.declared.ParseError.{ParseError}
+use Rattle.expression_parser.specs.declared.ParseError.TheVariants as error
 use Rattle.csl_grammar.specs.Stops.{IsEnded}
 use Rattle.csl_grammar.specs.Programs.{SpellsProgram, program}
 use Rattle.csl_grammar.specs.Spelling.{CanGoOn, IsUnexpected}
 use Rattle.csl_grammar.proofs.UniqueProgram.{unique_block}
-use Rattle.csl_parser.specs.Reading.{Found, Refused, Fails, tok, ret, seq, stops_anywhere}
+use Rattle.expression_parser.specs.Reading.{Found, Refused, Fails, tok, ret, seq, stops_anywhere}
 use Rattle.csl_parser.specs.Program.{program_of, MainRest, ProgramTokens, Tells}
-use Rattle.csl_parser.proofs.Single.{some_token}
+use Rattle.expression_parser.proofs.Single.{some_token}
 use Rattle.csl_parser.proofs.Functions.{all_shared_once, all_functions_once}
 
 with_end : {ts rest : List Token} {p : Program} {end : Token} → ProgramTokens ts rest p → rest ≡ end ∷ [] → end.kind ≡ kind.End → SpellsProgram ts p

@@ -10,7 +10,7 @@ use Rattle.csl_tree.specs.declared.program.ArraySize.{ArraySize}
 use Rattle.csl_tree.specs.declared.program.Valued.{Valued}
 use Rattle.csl_tree.specs.declared.program.Shared.{Shared}
 use Rattle.csl_grammar.specs.Programs.{SpellsValue}
-use Rattle.csl_parser.specs.Reading.{Tok, NameTok, SizeTok, Ret, Then, Either, ListUntil}
+use Rattle.expression_parser.specs.Reading.{Tok, NameTok, SizeTok, Ret, Then, Either, ListUntil}
 
 -- a shared word
 abbrev pub scalar_of : Name → Shared

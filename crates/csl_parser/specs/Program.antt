@@ -16,9 +16,9 @@ use Rattle.csl_tree.specs.declared.program.Stmt.{Stmt}
 use Rattle.csl_grammar.specs.Programs.{SpellsParam, SpellsShared, SpellsFunction, SpellsBlock, SpellsProgram}
 use Rattle.csl_grammar.specs.Levels.{Nesting, most_levels, IsFlat, IsTooDeep}
 use Rattle.csl_grammar.specs.Spelling.{IsUnexpected}
-use Rattle.csl_parser.specs.declared.ParseError.{ParseError}
-use Rattle.csl_parser.specs.declared.ParseError.TheVariants as error
-use Rattle.csl_parser.specs.Reading.{Tok, NameTok, Ret, Then, ListUntil, Until}
+use Rattle.expression_parser.specs.declared.ParseError.{ParseError}
+use Rattle.expression_parser.specs.declared.ParseError.TheVariants as error
+use Rattle.expression_parser.specs.Reading.{Tok, NameTok, Ret, Then, ListUntil, Until}
 
 abbrev pub param_of : Ty → Name → Param
 param_of t name = record { name = name; ty = t }

@@ -5,18 +5,18 @@ ghost use Rattle.csl_tree.specs.declared.token.TokenKind.TheVariants as kind;
 ghost use Rattle.csl_tree.specs.declared.token.Mark.TheVariants as mark;
 ghost use Rattle.csl_grammar.specs.Programs.{SpellsShared, SpellsValue};
 ghost use Rattle.csl_grammar.specs.Stops.{IsEnded};
-ghost use Rattle.csl_parser.specs.Reading.{Answers, ListUntil, behind, stops_anywhere};
+ghost use Rattle.expression_parser.specs.Reading.{Answers, ListUntil, behind, stops_anywhere};
 ghost use Rattle.csl_parser.specs.Chains.{TallyRest, IntRest, AfterName, ArrayRest, AfterSize, ListedRest};
 
-use crate::ParseError;
-use crate::tokens::{
-    comma, copy_of, expect, expect_name, expect_number, expect_word, front, is_mark, is_word,
-    natural, number,
-};
 use cal_terms::WordKind;
 use csl_tree::name::Name;
 use csl_tree::program::{ArraySize, Shared, Valued};
 use csl_tree::token::{Keyword, Mark, Token};
+use expression_parser::ParseError;
+use expression_parser::tokens::{
+    comma, copy_of, expect, expect_name, expect_number, expect_word, front, is_mark, is_word,
+    natural, number,
+};
 use sqlite_items::Items;
 use std::alloc::Global;
 

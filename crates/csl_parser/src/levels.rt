@@ -4,9 +4,9 @@ ghost use Rattle.std.specs.Prelude.{◌≡◌, ◌≤◌, ◌∷◌, [], IfOk, M
 ghost use Rattle.csl_grammar.specs.Levels.{outermost, behind, turned, turn_of_mark, Opens, Closes, Parts, most_levels};
 ghost use Rattle.csl_parser.specs.Program.{TellsDepth, IsLow};
 
-use crate::ParseError;
 use cal_terms::NoMemory;
 use csl_tree::token::{Keyword, Mark, Token, TokenKind};
+use expression_parser::ParseError;
 use std::alloc::Global;
 use std::marker::Model;
 

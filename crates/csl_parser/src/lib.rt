@@ -7,56 +7,16 @@ ghost use Rattle.csl_lexer.specs.Tokens.{SomeText};
 ghost use Rattle.csl_grammar.specs.Levels.{IsFlat, IsTooDeep};
 ghost use Rattle.csl_grammar.specs.Programs.{SpellsProgram};
 ghost use Rattle.csl_grammar.specs.Spelling.{IsUnexpected};
-ghost use Rattle.csl_parser.specs.declared.ParseError.TheVariants as error;
+ghost use Rattle.expression_parser.specs.declared.ParseError.TheVariants as error;
 
 mod decl;
-mod expr;
-mod heads;
-mod leaf;
 mod levels;
 mod program;
-mod simple;
-mod stmt;
-mod tokens;
 
-use cal_terms::NoMemory;
 use csl_tree::program::Program;
 use csl_tree::token::Token;
-use std::alloc::{AllocError, AllocFailed, Global};
-
-/// Why tokens are no program's.
-#[derive(Clone, Copy, Debug, PartialEq, Eq)]
-pub enum ParseError {
-    /// A token's level is above 64: the first such token's place, in bytes from 0.
-    TooDeep(u32),
-    /// No token's level is above 64, and a token stands where no program has it behind those before it: the first such token's
-    /// place, in bytes from 0.
-    Unexpected(u32),
-    /// Memory was wanted and not there.
-    NoMemory,
-}
-
-impl From<NoMemory> for ParseError {
-    ghost use Rattle.std.specs.Prelude.{◌≡◌};
-    ghost use Rattle.csl_parser.specs.declared.ParseError.TheVariants as error;
-
-    ghost from_gives = { λ _ e. e ≡ error.NoMemory };
-
-    fn from(_: NoMemory) -> ParseError {
-        ParseError::NoMemory
-    }
-}
-
-impl From<AllocError> for ParseError {
-    ghost use Rattle.std.specs.Prelude.{◌≡◌};
-    ghost use Rattle.csl_parser.specs.declared.ParseError.TheVariants as error;
-
-    ghost from_gives = { λ _ e. e ≡ error.NoMemory };
-
-    fn from(_: AllocError) -> ParseError {
-        ParseError::NoMemory
-    }
-}
+pub use expression_parser::ParseError;
+use std::alloc::Global;
 
 /// The one program that the tokens of a text spell. Levels are tested first, over all the tokens, and then the grammar: `TooDeep`
 /// and `Unexpected` say where tokens that spell none are wrong, and `NoMemory` that there was no memory for the work.

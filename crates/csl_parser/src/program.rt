@@ -8,18 +8,18 @@ ghost use Rattle.cal_terms.specs.declared.types.Ty.{Ty};
 ghost use Rattle.cal_terms.specs.declared.types.Gives.{Gives};
 ghost use Rattle.csl_grammar.specs.Programs.{SpellsShared, SpellsParam, SpellsFunction, type_word, result_word};
 ghost use Rattle.csl_grammar.specs.Stops.{IsEnded};
-ghost use Rattle.csl_parser.specs.Reading.{Answers, ListUntil, Until, stops_anywhere};
+ghost use Rattle.expression_parser.specs.Reading.{Answers, ListUntil, Until, stops_anywhere};
 ghost use Rattle.csl_parser.specs.Program.{ParamRest, FunctionRest, ProgramTokens, Tells};
 
-use crate::ParseError;
 use crate::decl::shared;
-use crate::stmt::block;
-use crate::tokens::{
-    comma, copy_of, expect, expect_name, expect_word, front, is_end, is_mark, is_word,
-};
 use csl_tree::program::{Function, Gives, Param, Program, Shared, Ty};
 use csl_tree::token::{Keyword, Mark, Token, TokenKind};
+use expression_parser::ParseError;
+use expression_parser::tokens::{
+    comma, copy_of, expect, expect_name, expect_word, front, is_end, is_mark, is_word,
+};
 use sqlite_items::Items;
+use statement_parser::stmt::block;
 use std::alloc::Global;
 
 /// The program that the tokens spell, whatever their levels.

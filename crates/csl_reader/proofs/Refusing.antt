@@ -9,8 +9,8 @@ use Rattle.csl_grammar.specs.Levels.{IsFlat, IsTooDeep}
 use Rattle.csl_grammar.specs.Programs.{SpellsProgram}
 use Rattle.csl_grammar.specs.Spelling.{IsUnexpected}
 use Rattle.csl_grammar.specs.Texts.{Spells, IsSpelledWithin, text_limit}
-use Rattle.csl_parser.specs.declared.ParseError.{ParseError}
-use Rattle.csl_parser.specs.declared.ParseError.TheVariants as parser
+use Rattle.expression_parser.specs.declared.ParseError.{ParseError}
+use Rattle.expression_parser.specs.declared.ParseError.TheVariants as parser
 use Rattle.type_check.specs.declared.checked.CheckError.{CheckError}
 use Rattle.type_check.specs.declared.checked.CheckError.TheVariants as checker
 use Rattle.type_check.specs.Refusal.{IsRefusal}

@@ -5,8 +5,8 @@ use Rattle.csl_tree.specs.declared.program.Program.{Program}
 use Rattle.type_check.specs.Faults.{first_fault}
 use Rattle.csl_lexer.specs.declared.LexError.{LexError}
 use Rattle.csl_lexer.specs.declared.LexError.TheVariants as lexer
-use Rattle.csl_parser.specs.declared.ParseError.{ParseError}
-use Rattle.csl_parser.specs.declared.ParseError.TheVariants as parser
+use Rattle.expression_parser.specs.declared.ParseError.{ParseError}
+use Rattle.expression_parser.specs.declared.ParseError.TheVariants as parser
 use Rattle.type_check.specs.declared.checked.CheckError.{CheckError}
 use Rattle.type_check.specs.declared.checked.CheckError.TheVariants as checker
 use Rattle.csl_reader.specs.declared.refusal.Refusal.TheVariants.{BadByte, LongName, LongNumber, OpenComment, OpenText, TooDeep, Unexpected, Faulty}

@@ -3,7 +3,7 @@ use Rattle.std.proofs.Common.{◌≡◌, ◌≢◌, ℕ, zero, suc, ◌+◌, ◌
 use Rattle.std.specs.Prelude.{slice_get, is_some}
 use Rattle.std.specs.List.{sum}
 use Rattle.std.proofs.lemmas.List.{length-set, get_or-set_same, get_or-set_other, length_push}
-use Rattle.std.proofs.lemmas.Bool.{both_ways, cases_eq, cases_lt, lt-ltb, le-ltb}
+use Rattle.std.proofs.lemmas.Bool.{both_ways, cases_eq, cases_lt, cases_Bool, lt-ltb, le-ltb}
 use Rattle.cal_base.specs.declared.step.TheConstants.{CALLER}
 use Rattle.cal_base.specs.declared.step.Verdict.{Verdict}
 use Rattle.cal_base.specs.declared.step.Verdict.TheVariants.{First, Again, Stale, Unasked, Full}
@@ -19,8 +19,8 @@ use Rattle.step_laws.proofs.Histories.{count_by-push, legal_push}
 use Rattle.step_laws.proofs.StepLaws.{one_if}
 use Rattle.step_laws.proofs.Growth.{delivered-other, delivered-first, delivered_at, delivered_apart, delivered_no_more, length_is_bounded, arrivals_are_bounded, ArrivalsAreBounded}
 use Rattle.progress_table.specs.Progress.{Progress, is_done_in}
-use Rattle.step_merge.specs.Staged.{Staged, StandsFor, size_of as laid_size}
-use Rattle.ties_commit.specs.Committed.{Agree, AreSame, Commits, LaysFirst, is_laid, verdict_in}
+use Rattle.step_merge.specs.Staged.{Staged, StandsFor}
+use Rattle.ties_commit.specs.Committed.{Agree, AreSame, Commits, LaysFirst, StillAgree, judged, verdict_in}
 use Rattle.step_core.specs.Calls.{has_entry}
 use Rattle.step_core.specs.Kept.{IsKept}
 
@@ -55,34 +55,27 @@ module _ (job : StepJob) (table : Progress) (stage : Staged) (number claims arri
       let bounded : ArrivalsAreBounded (size_of job) history = arrivals_are_bounded job history kept.legal in
       omega (arith, kept.arrivals_by_workers, kept.small, bounded.workers)
 
-  pub laid_length : laid_size stage ≡ length table.claims
-  laid_length = ap (λ a. length a) kept.laid_so.same ∙ (length-restricted_to (is_delivered history) job.answers ∙ sym kept.size)
-
   -- what has an answer is a number of the table
   pub in_table : (k : ℕ) (answer : Answer) → slice_get job.answers k ≡ Some answer → k < length table.claims
   in_table k answer at = omega (arith, kept.size, within_length job.answers k answer at)
 
-  stage_so : stage.laid ≡ delivered job history
-  stage_so = kept.laid_so.same
-
-  past_size : (k : ℕ) → size_of job ≤ k → is_done_in table k ≡ is_laid stage k
+  past_size : (k : ℕ) → size_of job ≤ k → is_done_in table k ≡ is_some (answer_of (delivered job history) k)
   past_size k past =
       let none : answer_of (delivered job history) k ≡ None = past_end (delivered job history) k None (omega (arith, past, length-restricted_to (is_delivered history) job.answers)) in
-      past_end table.done k false (omega (arith, past, kept.flags)) ∙ sym (ap (λ a. is_some (answer_of a k)) stage_so ∙ ap (λ o. is_some o) none)
+      past_end table.done k false (omega (arith, past, kept.flags)) ∙ sym (ap (λ o. is_some o) none)
 
-  -- table and stage agree
-  pub agree_now : Agree table stage
+  -- table and stage agree on the delivered answers
+  pub agree_now : Agree table stage (delivered job history)
   agree_now = record {
-    size = laid_length;
+    size = kept.laid_so.size ∙ (length-restricted_to (is_delivered history) job.answers ∙ sym kept.size);
+    flags = kept.flags ∙ sym kept.size;
+    stands = kept.laid_so;
     done = λ k.
         ⊎_elim
-        (λ (within : k < size_of job). kept.done_so k within ∙ (sym (delivered_has job history k within) ∙ sym (ap (λ a. is_some (answer_of a k)) stage_so)))
+        (λ (within : k < size_of job). kept.done_so k within ∙ sym (delivered_has job history k within))
         (λ (past : size_of job ≤ k). past_size k past)
         (cases_lt k (size_of job));
-    bound = λ answers stands.
-        let same : delivered job history ≡ answers = sym stage_so ∙ stands.same in
-        let place : kinds_of job.opening ≡ stage.kinds = sym kept.kinds_so in
-        kept.bounded ∙ (λ i. least_faulty (place i) (same i));
+    bound = kept.bounded ∙ ap (λ kinds. least_faulty kinds (delivered job history)) (sym kept.kinds_so);
   }
 
   -- the verdict by the table
@@ -95,20 +88,53 @@ module _ (job : StepJob) (table : Progress) (stage : Staged) (number claims arri
       let d = kept.done_so k within in
       λ i. cond (is_full who (a i) (s i)) Full (cond (ltb (n i) (n i)) Stale (cond (eqb (c i) 0) Unasked (cond (d i) Again First)))
 
+  -- a delivery of an older step is judged by the table as by the history
+  pub judged_agrees : (who step k : ℕ) (verdict : Verdict) → step < job.number → judged who arrivals (length table.claims) step number ≡ Some verdict → verdict_on job history who step k ≡ verdict
+  judged_agrees who step k verdict older is =
+      let a = kept.arrivals_by_workers in
+      let s = kept.size in
+      let full : is_full who arrivals (length table.claims) ≡ is_full who (arrivals_by is_worker history) (size_of job) = (λ i. is_full who (a i) (s i)) in
+      let now : ltb step number ≡ true = lt-ltb _ _ (omega (arith, kept.numbered, older)) in
+      let was : ltb step job.number ≡ true = lt-ltb _ _ older in
+      ⊎_elim
+      (λ (on : is_full who arrivals (length table.claims) ≡ true).
+      let verdict_is : Full ≡ verdict = let e = (λ i. cond (sym on i) (Some Full) (cond (ltb step number) (Some Stale) None)) ∙ is in (cc e) in
+      (λ i. cond ((sym full ∙ on) i) Full (cond (ltb step job.number) Stale (cond (eqb (claims_of history k) 0) Unasked (cond (is_delivered history k) Again First)))) ∙ verdict_is)
+      (λ (off : is_full who arrivals (length table.claims) ≡ false).
+      let verdict_is : Stale ≡ verdict = let e = (λ i. cond (sym off i) (Some Full) (cond (sym now i) (Some Stale) None)) ∙ is in (cc e) in
+      (λ i. cond ((sym full ∙ off) i) Full (cond (was i) Stale (cond (eqb (claims_of history k) 0) Unasked (cond (is_delivered history k) Again First)))) ∙ verdict_is)
+      (cases_Bool (is_full who arrivals (length table.claims)))
+
+  -- what is judged so is no first delivery
+  pub judged_not_first : (who step : ℕ) (verdict : Verdict) → judged who arrivals (length table.claims) step number ≡ Some verdict → is_first verdict ≡ false
+  judged_not_first who step verdict is =
+      elim (is_full who arrivals (length table.claims)) as (λ b. cond b (Some Full) (cond (ltb step number) (Some Stale) None) ≡ Some verdict → is_first verdict ≡ false) [
+        | true ↦ λ e. let same : Full ≡ verdict = cc in ap is_first (sym same)
+        | false ↦ λ e.
+            elim (ltb step number) as (λ b. cond b (Some Stale) None ≡ Some verdict → is_first verdict ≡ false) [
+              | true ↦ λ e. let same : Stale ≡ verdict = cc in ap is_first (sym same)
+              | false ↦ λ e. absurd (cc)
+            ] e
+      ] is
+
+  -- every delivery of an older step is judged so
+  pub judged_some : (who step : ℕ) → step < job.number → judged who arrivals (length table.claims) step number ≡ None → ⊥
+  judged_some who step older is =
+      let now : ltb step number ≡ true = lt-ltb _ _ (omega (arith, kept.numbered, older)) in
+      elim (is_full who arrivals (length table.claims)) as (λ b. cond b (Some Full) (cond (ltb step number) (Some Stale) None) ≡ None → ⊥) [
+        | true ↦ λ e. absurd (cc)
+        | false ↦ λ e. let e2 = (λ i. cond (sym now i) (Some Stale) None) ∙ e in absurd (cc e2)
+      ] is
+
   -- a delivery of an older step that is not full may come next
-  pub may_arrive_stale : (who step k : ℕ) → who < CALLER → step < job.number → k < 2 ^ 32 → is_full who arrivals (length table.claims) ≡ false → MayArrive job history who step k Stale
-  may_arrive_stale who step k worker older small room_left = record {
+  pub may_arrive_held : (who step k : ℕ) (verdict : Verdict) → who < CALLER → step < job.number → k < 2 ^ 32 → judged who arrivals (length table.claims) step number ≡ Some verdict → verdict ≢ Full → MayArrive job history who step k verdict
+  may_arrive_held who step k verdict worker older small is entered = record {
     known = omega arith;
     not_later = omega arith;
     small = small;
     in_range = λ e. absurd (omega arith);
-    judged =
-        let a = kept.arrivals_by_workers in
-        let s = kept.size in
-        let f : is_full who (arrivals_by is_worker history) (size_of job) ≡ false = (λ i. is_full who (sym a i) (sym s i)) ∙ room_left in
-        let t : ltb step job.number ≡ true = lt-ltb _ _ older in
-        λ i. cond (f i) Full (cond (t i) Stale (cond (eqb (claims_of history k) 0) Unasked (cond (is_delivered history k) Again First)));
-    entered = λ e. cc;
+    judged = judged_agrees who step k verdict older is;
+    entered = entered;
     caller_is_current = λ e. absurd (omega arith);
     caller_has_left = λ e. absurd (omega arith);
   }
@@ -175,15 +201,13 @@ module _ (job : StepJob) (table : Progress) (stage : Staged) (number claims arri
       }
 
   -- a first delivery keeps it, where the table notes it and the stage has its answer
-  first_keeps : (who k after room_after : ℕ) (answer : Answer) (more : Progress) (later : Staged) → MayArrive job history who number k First → slice_get job.answers k ≡ Some answer → LaysFirst table stage k answer more later → Agree more later → (who < CALLER → after ≡ arrivals + 1) → (CALLER ≤ who → after ≡ arrivals) → room ≤ room_after → IsKept job more later number claims after room_after (history ++ Arrive who number k First ∷ [])
+  first_keeps : (who k after room_after : ℕ) (answer : Answer) (more : Progress) (later : Staged) → MayArrive job history who number k First → slice_get job.answers k ≡ Some answer → LaysFirst table stage k answer more later → Agree more later (set (delivered job history) k (Some answer)) → (who < CALLER → after ≡ arrivals + 1) → (CALLER ≤ who → after ≡ arrivals) → room ≤ room_after → IsKept job more later number claims after room_after (history ++ Arrive who number k First ∷ [])
   first_keeps who k after room_after answer more later may at first agree low high grown =
       let within : k < size_of job = within_length job.answers k answer at in
       let next : set (delivered job history) k (Some answer) ≡ delivered job (history ++ Arrive who number k First ∷ []) =
       sym (delivered-first job history who number k answer at)
       in
       let place : later.kinds ≡ kinds_of job.opening = first.lays.kinds ∙ kept.kinds_so in
-      let stands : StandsFor later (set (delivered job history) k (Some answer)) = first.lays.lays (delivered job history) kept.laid_so in
-      let bound : more.bound ≡ least_faulty later.kinds (set (delivered job history) k (Some answer)) = agree.bound (set (delivered job history) k (Some answer)) stands in
       record {
         size = ap (λ c. length c) first.claims ∙ kept.size;
         flags = ap (λ d. length d) first.done ∙ (length-set table.done k true ∙ kept.flags);
@@ -201,8 +225,8 @@ module _ (job : StepJob) (table : Progress) (stage : Staged) (number claims arri
             (λ (apart : j ≡ k → ⊥).
             get_or-set_other table.done k j true false apart ∙ (kept.done_so j l ∙ sym (delivered_apart history who number k j apart)))
             (cases_eq j k);
-        bounded = bound ∙ (λ i. least_faulty (place i) (next i));
-        laid_so = subst (StandsFor later) next stands;
+        bounded = agree.bound ∙ (λ i. least_faulty (place i) (next i));
+        laid_so = subst (StandsFor later) next agree.stands;
         claims_by_workers = kept.claims_by_workers ∙ worker_claims_stay who number k First;
         arrivals_by_workers = arrivals_more who number k after First low high;
         has_room = omega (arith, kept.has_room);
@@ -215,8 +239,8 @@ module _ (job : StepJob) (table : Progress) (stage : Staged) (number claims arri
       rw (same.0, same.1) is
 
   -- a delivery that was committed keeps it, where it is entered
-  pub committed_keeps : (who k after room_after : ℕ) (verdict : Verdict) (answer : Answer) (more : Progress) (later : Staged) → MayArrive job history who number k verdict → slice_get job.answers k ≡ Some answer → Commits verdict table stage k answer more later → Agree more later → (who < CALLER → after ≡ arrivals + 1) → (CALLER ≤ who → after ≡ arrivals) → room ≤ room_after → IsKept job more later number claims after room_after (history ++ Arrive who number k verdict ∷ [])
-  committed_keeps who k after room_after First answer more later may at commits agree low high grown = first_keeps who k after room_after answer more later may at commits agree low high grown
+  pub committed_keeps : (who k after room_after : ℕ) (verdict : Verdict) (answer : Answer) (more : Progress) (later : Staged) → MayArrive job history who number k verdict → slice_get job.answers k ≡ Some answer → Commits verdict table stage k answer more later → StillAgree verdict table stage k answer more later → (who < CALLER → after ≡ arrivals + 1) → (CALLER ≤ who → after ≡ arrivals) → room ≤ room_after → IsKept job more later number claims after room_after (history ++ Arrive who number k verdict ∷ [])
+  committed_keeps who k after room_after First answer more later may at commits agree low high grown = first_keeps who k after room_after answer more later may at commits (agree (delivered job history) agree_now) low high grown
   committed_keeps who k after room_after Again answer more later may at commits agree low high grown = same_keeps who k after room_after Again more later may refl commits low high grown
   committed_keeps who k after room_after Stale answer more later may at commits agree low high grown = same_keeps who k after room_after Stale more later may refl commits low high grown
   committed_keeps who k after room_after Unasked answer more later may at commits agree low high grown = same_keeps who k after room_after Unasked more later may refl commits low high grown

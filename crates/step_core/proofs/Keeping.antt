@@ -1,5 +1,5 @@
 -- Each call of the core keeps what the core keeps.
-use Rattle.std.proofs.Common.{◌≡◌, ℕ, ◌+◌, ◌-◌, ◌^◌, ◌<◌, ◌≤◌, true, not, ◌&&◌, ltb, eqb, [], ◌∷◌, ◌++◌, length, set, get_or, refl, sym, ap, ◌∙◌, subst, ⊎_elim, arith, Result, Ok, Err}
+use Rattle.std.proofs.Common.{◌≡◌, ℕ, ◌+◌, ◌-◌, ◌^◌, ◌<◌, ◌≤◌, not, ◌&&◌, ltb, eqb, [], ◌∷◌, ◌++◌, length, set, get_or, refl, sym, ap, ◌∙◌, subst, ⊎_elim, arith, cond, Result, Ok, Err, None, true, false}
 use Rattle.std.specs.List.{sum}
 use Rattle.std.proofs.lemmas.List.{length-set, get_or-set_same, get_or-set_other, length_push}
 use Rattle.std.proofs.lemmas.List.Sums.{sum_by-set}
@@ -14,13 +14,14 @@ use Rattle.cal_base.specs.After.{least_faulty, after}
 use Rattle.cal_base.specs.History.{History, is_worker, is_caller, anyone, is_claim, claims_by, claims_of, arrivals_by, is_arrival, is_delivered}
 use Rattle.cal_base.specs.Claims.{StepJob, size_of, delivered, is_wanted, is_spent, claimed, claimed_if, MayClaim, IsComplete, meant}
 use Rattle.step_laws.proofs.Searches.{lightest_below_same, lightest_within}
-use Rattle.step_laws.proofs.Agreement.{least_faulty-le, length-restricted_to}
+use Rattle.step_laws.proofs.Agreement.{least_faulty-le, length-restricted_to, answer_of-restricted_to}
+use Rattle.cal_base.specs.Answers.{answer_of, all_of, entry_in}
 use Rattle.step_laws.proofs.Histories.{count_by-push, legal_push}
 use Rattle.step_laws.proofs.StepLaws.{AreBounded, are_bounded, claims_are_bounded, claimed_work, one_if, merged_is_meant}
 use Rattle.step_laws.proofs.Growth.{delivered-claim, delivered_no_more, length_is_bounded}
 use Rattle.progress_table.specs.Progress.{Progress, claims_in, is_wanted_in, least_wanted_in, with_claim, NothingIsWanted}
 use Rattle.eager_claim.specs.Claimed.{claimed_in}
-use Rattle.step_merge.specs.Staged.{Staged, StandsFor, Merges}
+use Rattle.step_merge.specs.Staged.{Staged, StandsFor, Merges, IsUnwritten}
 use Rattle.step_core.specs.Calls.{IsEnd}
 use Rattle.step_core.specs.Kept.{IsKept}
 
@@ -137,3 +138,9 @@ module _ (job : StepJob) (table : Progress) (stage : Staged) (number claims arri
         has_room = omega (arith, kept.has_room);
         legal = legal_push job history (Claim who k) kept.legal may;
       }
+
+  -- a page of which no answer of the job has a word has none of the delivered ones either
+  pub still_unwritten : (p : ℕ) → IsUnwritten (all_of job.answers) p → IsUnwritten (delivered job history) p
+  still_unwritten p none k a on =
+      ap (λ o. entry_in o a) (answer_of-restricted_to (is_delivered history) job.answers k)
+      ∙ (elim (is_delivered history k) as (λ b. entry_in (cond b (answer_of (all_of job.answers) k) None) a ≡ None) [ true ↦ none k a on | false ↦ refl ])

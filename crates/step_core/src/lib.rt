@@ -2,8 +2,6 @@
 #![tactic(auto)]
 
 mod finished;
-#[cfg(test)]
-mod rows;
 mod state;
 
 pub use finished::Finished;

@@ -1,8 +1,9 @@
 //! The core of a step: its history, and what follows from it.
 
-ghost use Rattle.std.specs.Prelude.{OnErr, IfOk, ◌≡◌, ◌+◌, ◌^◌, ◌<◌, ◌≤◌, ◌↔◌, [], ◌∷◌, ◌++◌, IsTrue, vec_len, vec_capacity};
-ghost use Rattle.cal_base.specs.Pages.{IsLater};
-ghost use Rattle.cal_base.specs.Answers.{answer_by};
+ghost use Rattle.std.specs.Prelude.{OnErr, IfOk, ℕ, ◌≡◌, ◌+◌, ◌^◌, ◌<◌, ◌≤◌, ◌↔◌, [], ◌∷◌, ◌++◌, IsTrue, vec_len, vec_capacity};
+ghost use Rattle.cal_base.specs.Pages.{IsLater, version_of};
+ghost use Rattle.step_merge.specs.Staged.{IsUnwritten};
+ghost use Rattle.cal_base.specs.Answers.{answer_by, all_of};
 ghost use Rattle.ties_commit.specs.Committed.{answer_in};
 ghost use Rattle.cal_base.specs.Claims.{size_of, claimed, verdict_on, IsLegal, IsComplete, meant};
 ghost use Rattle.cal_base.specs.History.{claims_by, arrivals_by, is_caller};
@@ -17,7 +18,7 @@ use progress_table::ProgressTable;
 use std::alloc::Global;
 use std::marker::{Model, PhantomData};
 use step_merge::Stage;
-use ties_commit::{Delivery, commit, is_full_for};
+use ties_commit::{Delivery, commit, judge};
 
 /// The history of the step that N names, with what follows from it.
 #[derive(Drop)]
@@ -58,7 +59,10 @@ fn enter(history: &mut Vec<Entry>, entry: Entry)
     ensures items { history.new.items ≡ history.old.items ++ entry ∷ [] }
     ensures room { vec_capacity history.old ≤ vec_capacity history.new }
 {
-    let _ = history.push(entry);
+    match history.push(entry) {
+        Ok(()) => {}
+        Err(_) => unreachable!(),
+    }
 }
 
 /// A count of what workers did, after one more by this number.
@@ -141,21 +145,24 @@ impl<N: JobName> Core<N> {
         ensures verdict { result ≡ verdict_on N.job self.old who step k }
         ensures history { self.new ≡ after_arrival self.old who step k result }
     {
-        let n = self.table.len();
-        if is_full_for(who, self.arrivals, n) {
-            return Verdict::Full;
+        match judge(who, self.arrivals, self.table.len(), step, self.number) {
+            Some(verdict) => {
+                if is_entered(verdict) {
+                    self.arrivals = raised(self.arrivals, who);
+                    enter(
+                        &mut self.history,
+                        Entry::Arrive {
+                            who,
+                            step,
+                            k,
+                            verdict,
+                        },
+                    );
+                }
+                verdict
+            }
+            None => unreachable!(),
         }
-        self.arrivals = raised(self.arrivals, who);
-        enter(
-            &mut self.history,
-            Entry::Arrive {
-                who,
-                step,
-                k,
-                verdict: Verdict::Stale,
-            },
-        );
-        Verdict::Stale
     }
 
     /// Merges the answers of a complete step into the memory that it opened on. Where the step ends in a fault, the memory stays as
@@ -168,6 +175,7 @@ impl<N: JobName> Core<N> {
         ensures end { IsEnd (meant N.job) image.new.memory result.result }
         ensures kept { OnErr result.result (image.new ≡ image.old) }
         ensures later { IsLater image.old image.new }
+        ensures pages { (p : ℕ) → IsUnwritten (all_of N.job.answers) p → version_of image.new p ≡ version_of image.old p }
     {
         let mut core = self;
         let result = core.stage.install(image);
@@ -196,24 +204,17 @@ impl<N: JobName> Core<N> {
     }
 
     /// The delivery of an answer of this step, by a worker, 0 to 31, or by the caller, which delivers as many times as there are
-    /// routines at most. Where memory is wanted nothing changes.
-    pub fn arrive<U: UpdateWords>(
-        &mut self,
-        alloc: Global,
-        who: u8,
-        done: &Finished<N, U>,
-    ) -> Result<Verdict, NoMemory>
+    /// routines at most.
+    pub fn arrive<U: UpdateWords>(&mut self, who: u8, done: &Finished<N, U>) -> Verdict
         requires who { who ≤ CALLER }
         requires caller { who ≡ CALLER → arrivals_by is_caller self.old < size_of N.job }
-        ensures verdict { IfOk result (λ verdict. verdict ≡ verdict_on N.job self.old who N.job.number done.now.k) }
-        ensures history { IfOk result (λ verdict. self.new ≡ after_arrival self.old who N.job.number done.now.k verdict) }
-        ensures err { OnErr result (self.new ≡ self.old) }
+        ensures verdict { result ≡ verdict_on N.job self.old who N.job.number done.now.k }
+        ensures history { self.new ≡ after_arrival self.old who N.job.number done.now.k result }
     {
         let step = self.number;
         let k = done.k;
         let what = delivery_of(done.ended, &done.words);
         let verdict = commit(
-            alloc,
             &mut self.table,
             &mut self.stage,
             who,
@@ -222,7 +223,7 @@ impl<N: JobName> Core<N> {
             step,
             k,
             what,
-        )?;
+        );
         if is_entered(verdict) {
             self.arrivals = raised(self.arrivals, who);
             enter(
@@ -235,6 +236,6 @@ impl<N: JobName> Core<N> {
                 },
             );
         }
-        Ok(verdict)
+        verdict
     }
 }

@@ -1,5 +1,5 @@
 -- Why a stage needs no updates: one writer more changes one candidate.
-use Rattle.std.proofs.Common.{◌≡◌, ℕ, zero, suc, ◌+◌, ℤ, pos, ◌+ℤ◌, List, [], ◌∷◌, ◌<◌, ◌≤◌, Bool, true, false, ◌&&◌, ◌||◌, ltb, eqb, min, max, cond, inl, inr, ◌⊎◌, refl, sym, ap, ◌∙◌, subst, ⊎_elim, arith, length, Option, Some, None}
+use Rattle.std.proofs.Common.{◌≡◌, ℕ, zero, suc, ℤ, pos, ◌+ℤ◌, List, [], ◌∷◌, ◌<◌, ◌≤◌, Bool, true, false, ◌&&◌, ◌||◌, ltb, eqb, min, max, cond, inl, inr, ◌⊎◌, refl, sym, ap, ◌∙◌, ⊎_elim, arith, length, Option, Some, None}
 use Rattle.std.proofs.lemmas.Bool.{cases_lt, cases_eq, cases_Bool, both_ways, lt-ltb, le-ltb, ltb-true, eqb-true, eq-eqb, ne_eqb, and_from, and_parts, or_cases, or_left, or_right}
 use Rattle.std.specs.Prelude.{is_some}
 use Rattle.std.specs.Option.{unwrap_or}
@@ -14,7 +14,8 @@ use Rattle.cal_base.specs.After.{first_writer, is_shared, shared_word, is_faulty
 use Rattle.step_laws.proofs.Agreement.{least_faulty_at}
 use Rattle.cal_base.specs.Numbers.{least_below}
 use Rattle.step_laws.proofs.Searches.{least_below-le, below_least, at_least, least_le, least_at}
-use Rattle.step_merge.specs.Summary.{IsLeastPair, IsLeastFailed, least_found, LeastFromSummary, ValueFromSummary, is_second, WritesToo, OwnerRule, CandidateRule, CandidateKept}
+use Rattle.step_merge.specs.Staged.{addend, IsLeastPair, IsLeastFailed}
+use Rattle.step_merge.specs.Laws.{least_found, LeastIsKept, ValueIsKept, is_second, OwnerRule, CandidateRule, CandidateKept}
 
 pub owner_rule : OwnerRule
 owner_rule n x before now within writes =
@@ -146,30 +147,33 @@ least_of kinds answers (Some pair) (Some (f, cause)) alone whole =
     (λ (h : f ≤ pair.0). let e : min pair.0 f ≡ f = omega arith in ap (λ k. is_faulty kinds answers k) e ∙ fails kinds answers f (ap is_fault whole.0))
     (cases_lt pair.0 f))
 
-pub least_from_summary : LeastFromSummary
-least_from_summary stage answers is = least_of stage.kinds answers stage.candidate stage.failed is.candidate is.failed
+pub least_is_kept : LeastIsKept
+least_is_kept stage answers stands = least_of stage.kinds answers stage.candidate stage.failed stands.candidate stands.failed
 
-pub value_from_summary : ValueFromSummary
-value_from_summary stage answers is a value = (
-  λ ordinary written. by_entry (entry_in (answer_of answers (first_writer answers (length answers) a)) a) written ∙ sym (is.value a ordinary),
-  λ within tally. shifted answers a value ∙ ap (λ s. value +ℤ s) (sym (is.sum a within tally)),
+-- ---- sums
+
+shift_from : (answers : Answers) (a : ℕ) (x y : ℤ) → fold (λ total answer. total +ℤ addend a answer) (x +ℤ y) answers ≡ x +ℤ fold (λ total answer. total +ℤ addend a answer) y answers
+shift_from [] a x y = refl
+shift_from (answer ∷ answers) a x y =
+    let e = addend a answer in
+    let same : (x +ℤ y) +ℤ e ≡ x +ℤ (y +ℤ e) = omega (arith, ints) in
+    ap (λ z. fold (λ total answer. total +ℤ addend a answer) z answers) same ∙ shift_from answers a x (y +ℤ e)
+
+-- a sum that begins at x is x more than one that begins at 0
+pub shifted : (answers : Answers) (a : ℕ) (x : ℤ) → fold (λ total answer. total +ℤ addend a answer) x answers ≡ x +ℤ fold (λ total answer. total +ℤ addend a answer) (pos 0) answers
+shifted answers a x =
+    let same : x ≡ x +ℤ pos 0 = omega (arith, ints) in
+    ap (λ z. fold (λ total answer. total +ℤ addend a answer) z answers) same ∙ shift_from answers a x (pos 0)
+
+pub value_is_kept : ValueIsKept
+value_is_kept stage answers stands a value = (
+  λ ordinary written. by_entry (entry_in (answer_of answers (first_writer answers (length answers) a)) a) written ∙ sym (stands.value a ordinary),
+  λ within tally. shifted answers a value ∙ ap (λ s. value +ℤ s) (sym (stands.sum a within tally)),
 )
   where
     by_entry : (o : Option ℤ) → is_some o ≡ true → unwrap_or o value ≡ unwrap_or o (pos 0)
     by_entry None h = absurd (cc)
     by_entry (Some v) h = refl
-
-    shift_from : (answers : Answers) (a : ℕ) (x y : ℤ) → fold (λ total answer. total +ℤ unwrap_or (entry_in answer a) (pos 0)) (x +ℤ y) answers ≡ x +ℤ fold (λ total answer. total +ℤ unwrap_or (entry_in answer a) (pos 0)) y answers
-    shift_from [] a x y = refl
-    shift_from (answer ∷ answers) a x y =
-        let e = unwrap_or (entry_in answer a) (pos 0) in
-        let same : (x +ℤ y) +ℤ e ≡ x +ℤ (y +ℤ e) = omega (arith, ints) in
-        ap (λ z. fold (λ total answer. total +ℤ unwrap_or (entry_in answer a) (pos 0)) z answers) same ∙ shift_from answers a x (y +ℤ e)
-
-    shifted : (answers : Answers) (a : ℕ) (x : ℤ) → fold (λ total answer. total +ℤ unwrap_or (entry_in answer a) (pos 0)) x answers ≡ x +ℤ fold (λ total answer. total +ℤ unwrap_or (entry_in answer a) (pos 0)) (pos 0) answers
-    shifted answers a x =
-        let same : x ≡ x +ℤ pos 0 = omega (arith, ints) in
-        ap (λ z. fold (λ total answer. total +ℤ unwrap_or (entry_in answer a) (pos 0)) z answers) same ∙ shift_from answers a x (pos 0)
 
 -- ---- the least candidate
 

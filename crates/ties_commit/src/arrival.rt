@@ -1,13 +1,12 @@
 //! The arrival rule.
 
-ghost use Rattle.std.specs.Prelude.{◌≡◌, ◌<◌, ◌≤◌, true, IfOk, OnOk, OnErr, length, slice_set};
+ghost use Rattle.std.specs.Prelude.{◌≡◌, ◌<◌, ◌≤◌, true, length, slice_set};
 ghost use Rattle.cal_base.specs.Claims.{is_full};
 ghost use Rattle.step_merge.specs.Staged.{size_of, IsFree, LaysAt};
-ghost use Rattle.ties_commit.specs.Committed.{Agree, AreSame, Commits, CutsAtLeast, answer_in, verdict_in};
+ghost use Rattle.ties_commit.specs.Committed.{DoAgree, StillAgree, Commits, CutsAtLeast, answer_in, judged, current_verdict, verdict_in};
 
-use cal_base::{CALLER, Cause, NoMemory, UpdateWords, Verdict, arrival_bound};
+use cal_base::{CALLER, Cause, UpdateWords, Verdict, arrival_bound};
 use progress_table::ProgressTable;
-use std::alloc::Global;
 use step_merge::Stage;
 
 /// What a routine answers, as it is delivered: its update, or why it failed.
@@ -20,31 +19,38 @@ pub enum Delivery<'a, U> {
 }
 
 /// Whether the deliverer is a worker, and as many deliveries of workers arrived as a step of n routines takes.
-pub fn is_full_for(who: u8, worker_arrivals: u32, n: u32) -> bool
+fn is_full_for(who: u8, worker_arrivals: u32, n: u32) -> bool
     requires { n ≤ 65536 }
     ensures { result ≡ is_full who worker_arrivals n }
 {
     who < CALLER && arrival_bound(n) <= worker_arrivals
 }
 
+/// Judges a delivery of whatever routine, of a step, where step `now` is open and has n routines, 65,536 at most: it is `Full` where
+/// a worker delivers and as many deliveries of workers arrived as the step takes, and else `Stale` where it is of an older step. It
+/// gives none of the two where the delivery may count. `worker_arrivals` says how many deliveries of workers arrived so far.
+pub fn judge(who: u8, worker_arrivals: u32, n: u32, step: u64, now: u64) -> Option<Verdict>
+    requires { n ≤ 65536 }
+    ensures { result ≡ judged who worker_arrivals n step now }
+{
+    if is_full_for(who, worker_arrivals, n) {
+        return Some(Verdict::Full);
+    }
+    if step < now {
+        return Some(Verdict::Stale);
+    }
+    None
+}
+
 /// Lays the answer of routine k.
-fn lay<U: UpdateWords>(
-    alloc: Global,
-    stage: &mut Stage,
-    k: u32,
-    what: Delivery<U>,
-) -> Result<(), NoMemory>
+fn lay<U: UpdateWords>(stage: &mut Stage, k: u32, what: Delivery<U>)
     requires in_range { k < size_of stage.old }
     requires free { IsFree stage.old k }
-    ensures ok { OnOk result (LaysAt stage.old stage.new k (answer_in U.update what.entry)) }
-    ensures err { OnErr result (stage.new ≡ stage.old) }
+    ensures { LaysAt stage.old stage.new k (answer_in U.update what.entry) }
 {
     match what {
-        Delivery::Update(update) => stage.lay(alloc, k, update),
-        Delivery::Fault(cause) => {
-            stage.lay_fault(k, cause);
-            Ok(())
-        }
+        Delivery::Update(update) => stage.lay(k, update),
+        Delivery::Fault(cause) => stage.lay_fault(k, cause),
     }
 }
 
@@ -64,9 +70,8 @@ fn note_first(table: &mut ProgressTable, stage: &Stage, k: u32)
 }
 
 /// Judges the delivery of the answer of routine k of a step, where step `now` is open, and commits it where it is the first.
-/// `worker_arrivals` says how many deliveries of workers arrived so far. Where memory is wanted nothing changes.
+/// `worker_arrivals` says how many deliveries of workers arrived so far.
 pub fn commit<U: UpdateWords>(
-    alloc: Global,
     table: &mut ProgressTable,
     stage: &mut Stage,
     who: u8,
@@ -75,28 +80,40 @@ pub fn commit<U: UpdateWords>(
     now: u64,
     k: u32,
     what: Delivery<U>,
-) -> Result<Verdict, NoMemory>
-    requires agree { Agree table.old stage.old }
+) -> Verdict
+    requires agree { DoAgree table.old stage.old }
     requires step { step ≤ now }
     requires number { step ≡ now → k < length table.old.claims }
-    ensures verdict { IfOk result (λ verdict. verdict ≡ verdict_in table.old who worker_arrivals step now k) }
-    ensures commits { IfOk result (λ verdict. Commits verdict table.old stage.old k (answer_in U.update what.entry) table.new stage.new) }
-    ensures agree { Agree table.new stage.new }
-    ensures err { OnErr result (AreSame table.old stage.old table.new stage.new) }
+    ensures verdict { result ≡ verdict_in table.old who worker_arrivals step now k }
+    ensures commits { Commits result table.old stage.old k (answer_in U.update what.entry) table.new stage.new }
+    ensures agree { StillAgree result table.old stage.old k (answer_in U.update what.entry) table.new stage.new }
 {
-    if is_full_for(who, worker_arrivals, table.len()) {
-        return Ok(Verdict::Full);
+    match judge(who, worker_arrivals, table.len(), step, now) {
+        Some(verdict) => verdict,
+        None => commit_current(table, stage, k, what),
     }
-    if step < now {
-        return Ok(Verdict::Stale);
-    }
+}
+
+/// The same for a delivery of the open step that is not full.
+fn commit_current<U: UpdateWords>(
+    table: &mut ProgressTable,
+    stage: &mut Stage,
+    k: u32,
+    what: Delivery<U>,
+) -> Verdict
+    requires agree { DoAgree table.old stage.old }
+    requires number { k < length table.old.claims }
+    ensures verdict { result ≡ current_verdict table.old k }
+    ensures commits { Commits result table.old stage.old k (answer_in U.update what.entry) table.new stage.new }
+    ensures agree { StillAgree result table.old stage.old k (answer_in U.update what.entry) table.new stage.new }
+{
     if table.claims(k) == 0 {
-        return Ok(Verdict::Unasked);
+        return Verdict::Unasked;
     }
     if table.is_done(k) {
-        return Ok(Verdict::Again);
+        return Verdict::Again;
     }
-    lay(alloc, stage, k, what)?;
+    lay(stage, k, what);
     note_first(table, stage, k);
-    Ok(Verdict::First)
+    Verdict::First
 }

@@ -2,7 +2,5 @@
 #![tactic(auto)]
 
 mod arrival;
-#[cfg(test)]
-mod tests;
 
-pub use arrival::{Delivery, commit, is_full_for};
+pub use arrival::{Delivery, commit, judge};

@@ -1,7 +1,7 @@
 use Rattle.std.proofs.Common.{◌++◌, ◌∙◌, map, ap, rules, sym, subst}
 use Rattle.std.proofs.lemmas.Result.{on_ok_weaker}
 use Rattle.csl_tree.specs.declared.program.Form.TheViews.{the_lemmas}
-use Rattle.compile_steps.specs.Lists.{steps_of, steps_of_arms, StatementsAre, LastBlockIs}
+use Rattle.expression_code.specs.Lists.{steps_of, steps_of_arms, StatementsAre, LastBlockIs}
 use Rattle.compiled_code.specs.Modules.{block_code}
 use Rattle.compile_steps.proofs.BlockLemmas.{steps_block, steps_while, steps_for, steps_if_none, steps_if_some, steps_par, codes_appended, is_par}
 use Rattle.compile_steps.proofs.Bridges.{is_while, is_block, is_if, is_for}

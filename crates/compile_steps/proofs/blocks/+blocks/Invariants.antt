@@ -1,6 +1,6 @@
 use Rattle.std.proofs.Common.{◌≡◌, ◌++◌, drop, map}
 use Rattle.compiled_code.specs.Modules.{block_code}
-use Rattle.compile_steps.specs.Lists.{steps_of, steps_of_arms, StatementsAre, AllArmsAre}
+use Rattle.expression_code.specs.Lists.{steps_of, steps_of_arms, StatementsAre, AllArmsAre}
 use Rattle.compile_steps.proofs.blocks.+blocks.Given as goal
 
 -- the code so far, and that of the rest, which has its shape

@@ -1,6 +1,6 @@
 use Rattle.std.proofs.Common.{◌≡◌, ◌++◌, drop, map}
 use Rattle.compiled_code.specs.Modules.{block_code}
-use Rattle.compile_steps.specs.Lists.{RoutinesAre}
+use Rattle.expression_code.specs.Lists.{RoutinesAre}
 use Rattle.compile_steps.proofs.blocks.push_step_blocks.Given as goal
 
 -- the code so far, and that of the rest

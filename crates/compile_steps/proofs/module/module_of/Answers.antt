@@ -1,6 +1,6 @@
 use Rattle.std.proofs.Common.{◌∙◌, ◌++◌, sym, subst}
 use Rattle.csl_tree.specs.declared.program.Program.{Program}
-use Rattle.compile_steps.specs.Lists.{texts_of, StatementsAre}
+use Rattle.expression_code.specs.Lists.{texts_of, StatementsAre}
 use Rattle.compile_steps.proofs.ModuleLemmas.{main_shape, module_made, has_bytes}
 use Rattle.compile_steps.proofs.module.module_of.Goals as goal
 

@@ -5,7 +5,7 @@ use Rattle.csl_tree.specs.declared.program.Arm.{Arm}
 use Rattle.csl_tree.specs.declared.program.Stmt.{Stmt}
 use Rattle.csl_tree.specs.declared.program.Form.TheViews.{the_lemmas}
 use Rattle.compiled_code.specs.Shape.{FormIs}
-use Rattle.compile_steps.specs.Lists.{StatementsAre, AllArmsAre, LastBlockIs}
+use Rattle.expression_code.specs.Lists.{StatementsAre, AllArmsAre, LastBlockIs}
 use Rattle.compile_steps.specs.Writing.{WroteAll, WroteArms}
 use Rattle.compile_steps.proofs.Bridges.{is_while, is_block, is_if, is_for}
 use Rattle.compile_steps.proofs.Written.{next_of, wrote_nothing, all_wrote, arms_wrote, block_wrote, while_wrote, if_wrote, form_while_wrote, form_block_wrote, form_par_wrote, form_for_wrote}

@@ -1,6 +1,6 @@
 use Rattle.std.proofs.Common.{◌+◌, ◌*◌, drop}
-use Rattle.compile_steps.specs.declared.writer.Writer.{Writer}
-use Rattle.compile_steps.specs.Lists.{StatementsAre, AllArmsAre}
+use Rattle.expression_code.specs.declared.writer.Writer.{Writer}
+use Rattle.expression_code.specs.Lists.{StatementsAre, AllArmsAre}
 use Rattle.compile_steps.specs.Writing.{WroteAll, WroteArms}
 use Rattle.compile_steps.proofs.statements.+write.Given as goal
 

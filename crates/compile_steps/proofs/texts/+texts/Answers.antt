@@ -1,5 +1,5 @@
 use Rattle.std.proofs.Common.{rules}
-use Rattle.compile_steps.proofs.ListLemmas.{appended}
+use Rattle.expression_code.proofs.ListLemmas.{appended}
 use Rattle.compile_steps.proofs.TextLemmas.{texts_block, texts_loop, texts_if_none, texts_if_some}
 use Rattle.compile_steps.proofs.texts.+texts.Goals as goal
 

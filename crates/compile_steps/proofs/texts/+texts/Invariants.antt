@@ -1,5 +1,5 @@
 use Rattle.std.proofs.Common.{◌≡◌, ◌++◌, drop}
-use Rattle.compile_steps.specs.Lists.{texts_of, texts_of_arms}
+use Rattle.expression_code.specs.Lists.{texts_of, texts_of_arms}
 use Rattle.compile_steps.proofs.texts.+texts.Given as goal
 
 -- what is appended so far, and the texts of the rest

@@ -2,7 +2,7 @@ use Rattle.std.proofs.Common.{rules, ◌≡◌, ◌+◌, ◌++◌, ◌<◌, get_
 use Rattle.std.proofs.lemmas.Int.{to_z-of_z}
 use Rattle.csl_meaning.specs.Layout.{words_in}
 use Rattle.csl_tree.specs.declared.program.Valued.{Valued}
-use Rattle.compile_steps.proofs.ListLemmas.{step}
+use Rattle.expression_code.proofs.ListLemmas.{step}
 use Rattle.compile_steps.proofs.SharedLemmas.{listed, initial_all, initial_word, initial_none, initial_rest}
 use Rattle.compile_steps.proofs.words.push_initial.Goals as goal
 

@@ -2,7 +2,7 @@ use Rattle.std.proofs.Common.{◌≡◌, ◌+◌, ◌∷◌, ap, ◌∙◌, sym,
 use Rattle.std.specs.Prelude.{unwrap_or}
 use Rattle.std.proofs.lemmas.List.{drop_more}
 use Rattle.csl_meaning.specs.Layout.{items_in, words_in}
-use Rattle.compile_steps.proofs.ListLemmas.{step}
+use Rattle.expression_code.proofs.ListLemmas.{step}
 use Rattle.compile_steps.proofs.SharedLemmas.{count_of, tallies_more, initial_more, length_more}
 use Rattle.compile_steps.proofs.words.push_words.Goals as goal
 

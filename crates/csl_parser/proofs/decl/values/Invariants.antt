@@ -3,8 +3,8 @@ use Rattle.csl_tree.specs.declared.token.TokenKind.TheVariants as kind
 use Rattle.csl_tree.specs.declared.token.Mark.TheVariants as mark
 use Rattle.csl_grammar.specs.Programs.{SpellsValue}
 use Rattle.csl_grammar.specs.Stops.{IsEnded}
-use Rattle.csl_parser.specs.Reading.{ListUntil, MoreUntil, stops_anywhere}
-use Rattle.csl_parser.proofs.Sequence.{Passes}
+use Rattle.expression_parser.specs.Reading.{ListUntil, MoreUntil, stops_anywhere}
+use Rattle.expression_parser.proofs.Sequence.{Passes}
 use Rattle.csl_parser.proofs.decl.values.Given as goal
 
 -- what is answered for more values at the rest is answered for the list at the tokens

@@ -1,0 +1,5 @@
+pub mod Runs
+pub mod Texts
+pub mod Falling
+pub mod Lines
+pub mod Events

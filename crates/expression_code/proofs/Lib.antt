@@ -1,0 +1,6 @@
+pub mod AreaLemmas
+pub mod Codes
+pub mod ListLemmas
+pub mod RowLemmas
+pub mod SizeLemmas
+pub mod StatementSizes

@@ -1,0 +1,70 @@
+-- Sizes of statements at the tree's own constructors.
+use Rattle.std.proofs.Common.{◌≡◌, ℕ, ◌+◌, length, List, [], ◌∷◌, Option, Some, None, refl, ap, ◌∙◌, arith}
+use denote.Hole.Carrier.{hidden}
+use Rattle.csl_tree.specs.declared.program.Program.{Program}
+use Rattle.csl_tree.specs.declared.program.Expr.{Expr}
+use Rattle.csl_tree.specs.declared.program.Stmt.{Stmt}
+use Rattle.csl_tree.specs.declared.program.Arm.{Arm, out-Arm, is-Arm'}
+use Rattle.csl_tree.specs.declared.program.RoutineBlock.{RoutineBlock}
+use Rattle.csl_tree.specs.declared.program.Form.{Form, more_of-Arm}
+use Rattle.csl_tree.specs.declared.program.Form.TheVariants as form
+use Rattle.csl_tree.specs.declared.program.Form.TheBlock.{shape-the_row-Stmt-1, hidden-the_row-Stmt-1, shape-the_row-Stmt-2, hidden-the_row-Stmt-2, shape-the_row-Arm-0, hidden-the_row-Arm-0}
+use Rattle.compiled_code.specs.Slots.{Slots}
+use Rattle.compiled_code.specs.Sizes.{size_of, widths_size, kinds_in}
+use Rattle.compiled_code.specs.Places.{slots_after, form_size, row_size, arms_size}
+use Rattle.expression_code.specs.Lists.{kinds_of, kinds_of_arms, statements_size, all_arms_size, last_block_size, for_loop_size}
+use Rattle.expression_code.proofs.RowLemmas.{append_none, kinds_row, kinds_arms, blocks_is}
+
+module _ (p : Program) where
+  pub row_is : (body : List Stmt) (slots : Slots) (slot : ℕ) → row_size p (hidden-the_row-Stmt-1 body) slots slot ≡ statements_size p body slots slot
+  unfolding shape-the_row-Stmt-1 hidden-the_row-Stmt-1 hidden
+  row_is [] slots slot = refl
+  row_is (s ∷ rest) slots slot = ap (λ n. form_size p s.form slots slot + n) (row_is rest (slots_after slots slot s.form) (slot + length (kinds_in s.form)))
+
+  pub arms_is : (arms : List Arm) (slots : Slots) (slot : ℕ) → arms_size p (hidden-the_row-Arm-0 arms) slots slot ≡ all_arms_size p arms slots slot
+  unfolding shape-the_row-Arm-0 hidden-the_row-Arm-0 hidden
+  arms_is [] slots slot = refl
+  arms_is (a ∷ rest) slots slot =
+      ap (λ x. arms_size p (more_of-Arm x (hidden-the_row-Arm-0 rest)) slots slot) (is-Arm' a)
+      ∙ (λ i. size_of (out-Arm a).test + 1 + row_is (out-Arm a).body slots slot i + 1 + arms_size p (hidden-the_row-Arm-0 rest) slots (slot + length (kinds_row (out-Arm a).body i)))
+      ∙ ap (λ n. size_of (out-Arm a).test + 1 + statements_size p (out-Arm a).body slots slot + 1 + n) (arms_is rest slots (slot + length (kinds_of (out-Arm a).body)))
+
+  pub size_if : (f : Form) (arms : List Arm) (last : Option (List Stmt)) (slots : Slots) (slot : ℕ) → f ≡ form.If arms last
+      → form_size p f slots slot ≡ all_arms_size p arms slots slot + last_block_size p last slots (slot + length (kinds_of_arms arms))
+  size_if f arms None slots slot e = ap (λ g. form_size p g slots slot) e ∙ ap (λ n. n + 0) (arms_is arms slots slot)
+  size_if f arms (Some body) slots slot e =
+      ap (λ g. form_size p g slots slot) e
+      ∙ (λ i. arms_is arms slots slot i + row_size p (hidden-the_row-Stmt-1 body) slots (slot + length (kinds_arms arms i)))
+      ∙ ap (λ n. all_arms_size p arms slots slot + n) (row_is body slots (slot + length (kinds_of_arms arms)))
+
+  pub size_if_none : (f : Form) (arms : List Arm) (last : Option (List Stmt)) (slots : Slots) (slot : ℕ) → f ≡ form.If arms last → last ≡ None
+      → form_size p f slots slot ≡ all_arms_size p arms slots slot
+  size_if_none f arms last slots slot e none =
+      size_if f arms last slots slot e ∙ ap (λ l. all_arms_size p arms slots slot + last_block_size p l slots (slot + length (kinds_of_arms arms))) none ∙ (omega arith)
+
+  pub size_if_some : (f : Form) (arms : List Arm) (last : Option (List Stmt)) (body : List Stmt) (slots : Slots) (slot : ℕ) → f ≡ form.If arms last → last ≡ Some body
+      → form_size p f slots slot ≡ all_arms_size p arms slots slot + statements_size p body slots (slot + length (kinds_of_arms arms))
+  size_if_some f arms last body slots slot e some =
+      size_if f arms last slots slot e ∙ ap (λ l. all_arms_size p arms slots slot + last_block_size p l slots (slot + length (kinds_of_arms arms))) some
+
+  pub size_while : (f : Form) (test : Expr) (body : List Stmt) (slots : Slots) (slot : ℕ) → f ≡ form.While test body
+      → form_size p f slots slot ≡ size_of test + 1 + statements_size p body slots slot + 1
+  size_while f test body slots slot e = ap (λ g. form_size p g slots slot) e ∙ ap (λ n. size_of test + 1 + n + 1) (row_is body slots slot)
+
+  pub size_for : (f : Form) (first : Stmt) (test : Expr) (next : Stmt) (body : List Stmt) (slots : Slots) (slot : ℕ) → f ≡ form.For first test next body
+      → form_size p f slots slot ≡ for_loop_size p first.form test next.form body slots slot
+  unfolding shape-the_row-Stmt-2 hidden-the_row-Stmt-2 hidden
+  size_for f first test next body slots slot e =
+      let inner = slots_after slots slot first.form in
+      ap (λ g. form_size p g slots slot) e
+      ∙ (λ i. (form_size p first.form slots slot + 0) + size_of test + 1 + row_size p (hidden-the_row-Stmt-1 body) inner (slot + length (append_none (kinds_in first.form) i))
+      + (form_size p next.form inner (slot + length (append_none (kinds_in first.form) i) + length (kinds_row body i)) + 0) + 1)
+      ∙ (λ i. (form_size p first.form slots slot + 0) + size_of test + 1 + row_is body inner (slot + length (kinds_in first.form)) i
+      + (form_size p next.form inner (slot + length (kinds_in first.form) + length (kinds_of body)) + 0) + 1)
+      ∙ (omega arith)
+
+  pub size_block : (f : Form) (body : List Stmt) (slots : Slots) (slot : ℕ) → f ≡ form.Block body → form_size p f slots slot ≡ statements_size p body slots slot
+  size_block f body slots slot e = ap (λ g. form_size p g slots slot) e ∙ row_is body slots slot
+
+  pub size_par : (f : Form) (blocks : List RoutineBlock) (slots : Slots) (slot : ℕ) → f ≡ form.Par blocks → form_size p f slots slot ≡ widths_size blocks + 1
+  size_par f blocks slots slot e = ap (λ g. form_size p g slots slot) e ∙ ap (λ b. widths_size b + 1) (blocks_is blocks)

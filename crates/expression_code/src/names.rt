@@ -1,0 +1,141 @@
+//! What the names of a program stand for in its code.
+
+ghost use Rattle.std.specs.Prelude.{◌≡◌, ◌+◌, IfOk, OnOk, List, ℕ, Some, None, if◌then◌else◌};
+ghost use Rattle.std.specs.Option.{option_or};
+ghost use Rattle.std.specs.Str.{bytes_eq};
+ghost use Rattle.csl_meaning.specs.Layout as layout;
+ghost use Rattle.expression_code.specs.Areas.{area_among};
+
+use crate::writer::{length_of, sum};
+use cal_terms::NoMemory;
+use csl_meaning::Area;
+use csl_tree::name::Text;
+use csl_tree::program::{ArraySize, Gives, Program};
+use indexmap::IndexMap;
+use std::alloc::Global;
+use std::marker::Model;
+
+/// A program, and where its shared words lie. Contracts see it as the program.
+#[derive(Drop)]
+pub struct Names<'a> {
+    program: &'a Program,
+    areas: IndexMap<Vec<u8>, Area>,
+}
+
+impl<'a> Model for Names<'a> {
+    ghost use Rattle.std.specs.Prelude.{◌≡◌, List, ℕ};
+    ghost use Rattle.expression_code.specs.Areas.{area_among};
+    ghost use Rattle.csl_tree.specs.declared.program.Program.{Program};
+    ghost use Rattle.csl_tree.specs.contracts.program.Program as tree;
+    ghost use Rattle.csl_meaning.specs.Layout.{area_of};
+
+    ghost Value = { Program };
+
+    ghost coded = { tree.the_row.coded };
+
+    ghost view = { λ n. n.program.now };
+
+    ghost invariant = { λ n. (name : List ℕ) → area_among n.areas.entries name ≡ area_of n.program.now.shared name };
+}
+
+impl<'a> Names<'a> {
+    ghost use Rattle.std.specs.Prelude.{◌≡◌, IfOk, length};
+    ghost use Rattle.csl_meaning.specs.Layout.{area_of};
+    ghost use Rattle.csl_meaning.specs.Value.{declared};
+    ghost use Rattle.csl_meaning.specs.Effect.{function_named};
+    ghost use Rattle.compiled_code.specs.Sizes.{given_by};
+    ghost use Rattle.compiled_code.specs.Values.{function_number};
+
+    /// The names of this program.
+    pub fn of(alloc: Global, program: &'a Program) -> Result<Names<'a>, NoMemory>
+        ensures { IfOk result (λ n. n ≡ program.now) }
+    {
+        let mut areas: IndexMap<Vec<u8>, Area> = IndexMap::new(alloc);
+        let mut first = 0u32;
+        for s in program.shared.as_slice() {
+            let items = items_in(&s.size)?;
+            add_area(alloc, &mut areas, &s.name.text, Area { first, items })?;
+            first = sum(first, items.unwrap_or(1))?;
+        }
+        Ok(Names { program, areas })
+    }
+
+    /// The program.
+    pub fn program(&self) -> &Program
+        ensures { result.now ≡ self.now }
+    {
+        self.program
+    }
+
+    /// The words of a shared name that is used.
+    pub fn area(&self, name: &Text) -> Area
+        ensures { result ≡ declared (area_of self.now.shared name.now) }
+    {
+        match self.areas.get(name.as_slice()) {
+            Some(area) => *area,
+            None => Area {
+                first: 0,
+                items: None,
+            },
+        }
+    }
+
+    /// How many functions stand before the one with this name.
+    pub fn function_number(&self, name: &Text) -> Result<u32, NoMemory>
+        ensures { IfOk result (λ n. n ≡ function_number self.now.functions name.now) }
+    {
+        let functions = self.program.functions.as_slice();
+        for (i, f) in functions.iter().enumerate() {
+            if f.name.text.as_slice() == name.as_slice() {
+                return length_of(i);
+            }
+        }
+        length_of(functions.len())
+    }
+
+    /// What the function with this name gives back.
+    pub fn gives(&self, name: &Text) -> Gives
+        ensures { result ≡ given_by (function_named self.now.functions name.now) }
+    {
+        for f in self.program.functions.as_slice() {
+            if f.name.text.as_slice() == name.as_slice() {
+                return f.gives;
+            }
+        }
+        Gives::Nothing
+    }
+}
+
+/// One more shared name with its words. One that is here already keeps its own.
+fn add_area(
+    alloc: Global,
+    areas: &mut IndexMap<Vec<u8>, Area>,
+    name: &Text,
+    area: Area,
+) -> Result<(), NoMemory>
+    ensures { OnOk result ((other : List ℕ) → area_among areas.new.entries other ≡ option_or (area_among areas.old.entries other) (if bytes_eq name.now other then Some area else None)) }
+{
+    if areas.get(name.as_slice()).is_some() {
+        return Ok(());
+    }
+    let key = Vec::from_slice(alloc, name.as_slice())?;
+    areas.insert(key, area)?;
+    Ok(())
+}
+
+/// How many words an array has.
+pub fn items_in(size: &Option<ArraySize>) -> Result<Option<u32>, NoMemory>
+    ensures { IfOk result (λ n. n ≡ layout.items_in size.now) }
+{
+    match size {
+        None => Ok(None),
+        Some(size) => {
+            if size.number < 0 {
+                Ok(Some(0))
+            } else {
+                let n = u32::try_from(size.number).map_err(|_| NoMemory)?;
+                Ok(Some(n))
+            }
+        }
+    }
+}

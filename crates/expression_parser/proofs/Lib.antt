@@ -1,0 +1,5 @@
+pub mod Sequence
+pub mod Single
+pub mod Rules
+pub mod Steps
+pub mod Then

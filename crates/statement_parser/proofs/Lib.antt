@@ -1,0 +1,3 @@
+pub mod StatementParts
+pub mod Leaves
+pub mod Nested

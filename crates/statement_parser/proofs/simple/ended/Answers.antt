@@ -1,0 +1,24 @@
+use Rattle.std.proofs.Common.{Some, None, true, false, refl, ◌≡◌, ◌≤◌, ◌∙◌, sym, ap, arith, rules, List, length, [], ◌∷◌, ◌++◌}
+use Rattle.std.proofs.lemmas.Result.{err_from_is_err_and}
+use Rattle.csl_tree.specs.declared.token.Token.{Token}
+use Rattle.csl_tree.specs.declared.token.TokenKind.TheVariants as kind
+use Rattle.csl_tree.specs.declared.token.Keyword.TheVariants as word
+use Rattle.csl_tree.specs.declared.token.Mark.TheVariants as mark
+use Rattle.csl_tree.specs.declared.program.Form.TheVariants as form
+use Rattle.csl_grammar.specs.Expressions.{SpellsExpr, whole, place}
+use Rattle.csl_grammar.specs.Stops.{Stops}
+use Rattle.csl_grammar.specs.Programs.{stmt}
+use Rattle.expression_parser.specs.Reading.{stops_anywhere}
+use Rattle.statement_parser.specs.Statements.{NoElse, EndsAs, DeclRest, Changing, ChangeRest, IndexedRest}
+use Rattle.expression_parser.proofs.Sequence.{passed, passed_error, passes_through}
+use Rattle.expression_parser.proofs.Then.{then_first, then_second, then_found, then_answers, then_passes, tok_found, tok_err, ret_found, begins_other}
+use Rattle.statement_parser.proofs.StatementParts as d
+use Rattle.statement_parser.proofs.simple.ended.Goals as goal
+
+pub returns-in_err-rest-clause-answer : goal.returns-in_err-rest-clause-answer
+returns-in_err-rest-clause-answer c =
+    let p = err_from_is_err_and c.from_residual.result c.from_residual.ensures.1 in
+    rw (p.1, p.2) (then_first (d.semicolon_follows c.args.s NoElse) c.args.tokens.now _ (tok_err _ _ _ c.in_err-rest.ensures.answer))
+
+pub returns-clause-answer : goal.returns-clause-answer
+returns-clause-answer c = then_answers (d.semicolon_follows c.args.s NoElse) _ c.args.tokens.now _ _ _ (tok_found c.in_ok-rest.ensures.answer) c.not_else.ensures.answer

@@ -1,0 +1,35 @@
+use Rattle.std.proofs.Common.{Some, None, true, false, refl, ◌≡◌, ◌≤◌, ◌∙◌, sym, ap, arith, rules, List, length, [], ◌∷◌, ◌++◌}
+use Rattle.std.proofs.lemmas.Result.{err_from_is_err_and}
+use Rattle.csl_tree.specs.declared.token.Token.{Token}
+use Rattle.csl_tree.specs.declared.token.TokenKind.TheVariants as kind
+use Rattle.csl_tree.specs.declared.token.Keyword.TheVariants as word
+use Rattle.csl_tree.specs.declared.token.Mark.TheVariants as mark
+use Rattle.csl_tree.specs.declared.program.Form.TheVariants as form
+use Rattle.csl_tree.specs.declared.program.Item.{Item}
+use Rattle.csl_tree.specs.declared.program.Item.TheVariants as item
+use Rattle.csl_grammar.specs.Expressions.{SpellsExpr, whole, place, call}
+use Rattle.csl_grammar.specs.Stops.{Stops}
+use Rattle.csl_grammar.specs.Programs.{stmt, SpellsItem, SpellsStmt}
+use Rattle.expression_parser.specs.Reading.{stops_anywhere, behind, Ret, ListUntil, MoreUntil}
+use Rattle.statement_parser.specs.Statements.{NoElse, EndsAs, DeclRest, Changing, ChangeRest, IndexedRest, CallRest, ReturnRest, AssertRest, PrintRest}
+use Rattle.expression_parser.proofs.Sequence.{passed, passed_error, passes_through}
+use Rattle.expression_parser.proofs.Then.{then_first, then_second, then_found, then_answers, then_passes, tok_found, tok_err, ret_found, begins_other}
+use Rattle.expression_parser.proofs.Steps.{from_first}
+use Rattle.statement_parser.proofs.StatementParts as d
+use Rattle.statement_parser.proofs.simple.printed.Goals as goal
+
+pub returns-in_err-rest-clause-answer : goal.returns-in_err-rest-clause-answer
+returns-in_err-rest-clause-answer c =
+    let p = err_from_is_err_and c.from_residual.result c.from_residual.ensures.1 in
+    rw (p.1, p.2) (then_first (d.opening_items (λ items. stmt c.args.first.now.at (form.Print items))) c.args.tokens.now _ (tok_err _ _ _ c.in_err-rest.ensures.answer))
+
+pub returns-in_err-items-clause-answer : goal.returns-in_err-items-clause-answer
+returns-in_err-items-clause-answer c =
+    let p = err_from_is_err_and c.from_residual-in_err-items.result c.from_residual-in_err-items.ensures.1 in
+    rw (p.1, p.2) (then_second (d.opening_items (λ items. stmt c.args.first.now.at (form.Print items))) c.args.tokens.now _ _ _ (tok_found c.in_ok-rest.ensures.answer)
+    (then_first (d.items_follow (λ items. stmt c.args.first.now.at (form.Print items))) _ _ c.in_err-items.ensures.answer))
+
+pub returns-clause-answer : goal.returns-clause-answer
+returns-clause-answer c =
+    then_answers (d.opening_items (λ items. stmt c.args.first.now.at (form.Print items))) _ c.args.tokens.now _ _ _ (tok_found c.in_ok-rest.ensures.answer)
+    (then_answers (d.items_follow (λ items. stmt c.args.first.now.at (form.Print items))) _ _ _ _ _ c.in_ok-items.ensures.answer c.bare.ensures.answer)
