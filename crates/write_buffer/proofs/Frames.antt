@@ -1,9 +1,9 @@
 -- Lists of frames that are taken and given back.
-use Rattle.std.proofs.Common.{◌≡◌, ◌≢◌, ℕ, zero, suc, ◌+◌, ◌<◌, ◌≤◌, ℤ, List, [], ◌∷◌, ◌++◌, length, get_or, set, Option, Some, None, refl, sym, ap, ◌∙◌, subst, arith, ⊎_elim, is_some, true, false}
+use Rattle.std.proofs.Common.{◌≡◌, ◌≢◌, ℕ, zero, suc, ◌+◌, ◌<◌, ◌≤◌, ℤ, List, [], ◌∷◌, ◌++◌, length, set, Option, None, refl, sym, ap, ◌∙◌, arith, ⊎_elim, is_some, true, false}
 use Rattle.std.proofs.lemmas.Bool.{cases_eq}
 use Rattle.std.proofs.lemmas.List.{get_or-set_other, length-append, get_or_append_left, get_or_at}
 use Rattle.frame_pool.specs.Pool.{Pool, frame_at, free_count, IsOut, TakesLowest}
-use Rattle.write_buffer.specs.Buffered.{frame_of, IsForeign, AreOut, AreApart, TakesFrames, GivesFrames}
+use Rattle.write_buffer.specs.Buffered.{frame_of, IsForeign, AreApart, TakesFrames}
 
 pub takes_none : (pool : Pool) → TakesFrames pool pool []
 takes_none pool = record {

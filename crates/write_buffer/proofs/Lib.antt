@@ -3,3 +3,4 @@ pub mod Touched
 pub mod Written
 pub mod Frames
 pub mod WordKinds
+pub mod Views

@@ -1,22 +1,21 @@
 -- The map that a buffer stands for.
-use Rattle.std.proofs.Common.{◌≡◌, ◌≢◌, ℕ, zero, suc, ◌+◌, ◌*◌, ◌/◌, ◌%◌, ◌<◌, ◌≤◌, ℤ, pos, Bool, true, false, cond, List, [], ◌∷◌, length, replicate, map, get_or, set, Option, Some, None, refl, sym, ap, ◌∙◌, subst, arith, ⊎_elim, ◌⊎◌, inl, inr, is_some}
+use Rattle.std.proofs.Common.{◌≡◌, ◌≢◌, ℕ, ◌*◌, ◌/◌, ◌%◌, ◌<◌, ◌≤◌, ℤ, pos, Bool, true, false, List, length, replicate, map, get_or, set, Option, Some, None, refl, sym, ap, ◌∙◌, subst, arith, ⊎_elim, ◌⊎◌, inl, inr, is_some}
 use Rattle.std.specs.List.{range_with_len}
 use Rattle.std.specs.Option.{option_map_or}
 use Rattle.std.specs.FinMap.{get, insert, empty, get-empty, same_map, nat_cmp-IsAntisymmetric}
 use Rattle.std.specs.Cmp.{nat_cmp_total}
 use Rattle.std.specs.Ordering.{nat_cmp}
 use Rattle.std.proofs.lemmas.Bool.{cases_eq, cases_lt}
-use Rattle.std.proofs.lemmas.List.{get_or-set_same, get_or-set_other, length-set}
+use Rattle.std.proofs.lemmas.List.{get_or-set_same, get_or-set_other}
 use Rattle.std.proofs.lemmas.List.FromFn.{get_or-map-range_with_len, length-map-range_with_len}
 use Rattle.cal_terms.specs.declared.kinds.WordKind.{WordKind}
 use Rattle.cal_base.specs.Updates.{IsBelow}
-use Rattle.cal_base.specs.Entries.{own_from}
 use Rattle.cal_base.proofs.Entries.{get_own, own_past}
 use Rattle.cal_base.proofs.Updates.{get_put, get_put_other}
-use Rattle.frame_pool.specs.Pool.{Pool, frame_at, free_count, IsOut}
+use Rattle.frame_pool.specs.Pool.{Pool, frame_at, IsOut}
 use Rattle.frame_pool.proofs.Frames.{out_within, out_written, free_count-written}
 use Rattle.write_buffer.specs.Bits.{is_marked, with_mark}
-use Rattle.write_buffer.specs.Buffered.{Buffered, frame_of, word_in, entry_at, written_of, IsForeign, AreOut, AreApart, KeepsOthers, ChangesOwn}
+use Rattle.write_buffer.specs.Buffered.{Buffered, frame_of, word_in, entry_at, written_of, AreOut, ChangesOwn}
 use Rattle.write_buffer.specs.Held.{IsBuffer}
 use Rattle.write_buffer.proofs.Masks.{length-with_mark, marked_same, marked_other, unmarked_past}
 use Rattle.write_buffer.proofs.Touched.{unmarked_all}
@@ -67,10 +66,10 @@ word_of_frame : (pool : Pool) (f place : ℕ) (words : List ℤ) → frame_at po
 word_of_frame pool f place words is = rw is refl
 
 -- a marked word is in a page
-page_of_marked : (masks : List ℕ) (a : ℕ) → is_marked masks a ≡ true → a / 64 < length masks
+pub page_of_marked : (masks : List ℕ) (a : ℕ) → is_marked masks a ≡ true → a / 64 < length masks
 page_of_marked masks a is = ⊎_elim (λ (low : a / 64 < length masks). low) (λ (high : length masks ≤ a / 64). let none = unmarked_past masks a high in cc) (cases_lt (a / 64) (length masks))
 
-bool_is : (b : Bool) → (b ≡ true) ⊎ (b ≡ false)
+pub bool_is : (b : Bool) → (b ≡ true) ⊎ (b ≡ false)
 bool_is true = inl refl
 bool_is false = inr refl
 
@@ -121,8 +120,7 @@ put_here pool buffer f a words new v is own range frame read size made =
     entry_some later after q (same ∙ marked) ∙ ap (λ x. Some x) (word_kept q apart marked) ∙ sym (entry_some pool buffer q marked))
     (λ (none : is_marked buffer.masks q ≡ false). entry_none later after q (same ∙ none) ∙ sym (entry_none pool buffer q none))
     (bool_is (is_marked buffer.masks q))
-    in
-    (
+    in (
       written_put pool later buffer after a v here kept,
       record {
         kinds = refl;

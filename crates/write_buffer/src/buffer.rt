@@ -1,12 +1,12 @@
 //! The write buffer.
 
-ghost use Rattle.std.specs.Prelude.{◌≡◌, ◌<◌, ◌≤◌, ◌/◌, ◌%◌, ◌+◌, ℕ, pos, IfOk, OnErr, Ok, Err, length, slice_index_or, slice_set};
+ghost use Rattle.std.specs.Prelude.{◌≡◌, ◌<◌, ◌≤◌, ◌/◌, ◌%◌, ◌+◌, ◌^◌, ℕ, pos, IfOk, OnErr, Ok, Err, length, slice_index_or, slice_set};
 ghost use Rattle.std.specs.FinMap.{empty, get, insert};
 ghost use Rattle.cal_terms.specs.declared.kinds.WordKind.TheVariants.{Tally as tally};
 ghost use Rattle.cal_base.specs.Memory.{kinds_of, Memory};
 ghost use Rattle.cal_base.specs.Pages.{page_count};
 ghost use Rattle.frame_pool.specs.Pool.{Pool, free_count};
-ghost use Rattle.write_buffer.specs.Bits.{IsNextMarked};
+ghost use Rattle.cal_base.specs.Updates.{IsNextFrom, IsBelow};
 ghost use Rattle.write_buffer.specs.Buffered.{Buffered, AreOut, AreApart, TakesFrames, GivesFrames, ChangesOwn, AddsToSum, written_of, entry_at, word_in, frame_of};
 
 use crate::marks::Marks;
@@ -94,11 +94,7 @@ fn set_word(words: &mut [i64; 64], i: u32, v: i64)
 
 impl WriteBuffer {
     /// A buffer for the words of an image, with no entry. It takes a frame of the pool for each page.
-    pub fn make(
-        alloc: Global,
-        image: &Image,
-        pool: &mut FramePool,
-    ) -> Result<WriteBuffer, NoMemory>
+    pub fn make(alloc: Global, image: &Image, pool: &mut FramePool) -> Result<WriteBuffer, NoMemory>
         requires { page_count (length image.now.memory) ≤ free_count pool.old }
         ensures kinds { IfOk result (λ buffer. buffer.kinds ≡ kinds_of image.now.memory) }
         ensures frames { IfOk result (λ buffer. TakesFrames pool.old pool.new buffer.frames) }
@@ -130,12 +126,25 @@ impl WriteBuffer {
     pub fn get(&self, pool: &FramePool, a: u32) -> Option<i64>
         requires range { a < length self.now.kinds }
         requires own { AreOut pool.now self.now.frames }
-        ensures { result ≡ get (written_of pool.now self.now) a }
+        ensures entry { result ≡ get (written_of pool.now self.now) a }
+        ensures pages { length self.now.masks ≡ length self.now.frames }
     {
         if self.marks.is_marked(a) {
             Some(self.value(pool, a))
         } else {
             None
+        }
+    }
+
+    /// The entry at the least address from this one on.
+    pub fn next(&self, pool: &FramePool, from: u32) -> Option<(u32, i64)>
+        requires { AreOut pool.now self.now.frames }
+        ensures next { IsNextFrom (written_of pool.now self.now) from result }
+        ensures addresses { IsBelow (2 ^ 32) (written_of pool.now self.now) }
+    {
+        match self.marks.next(from) {
+            None => None,
+            Some(a) => Some((a, self.value(pool, a))),
         }
     }
 

@@ -4,5 +4,9 @@
 mod bits;
 pub mod buffer;
 mod marks;
+pub mod update;
+pub mod view;
 
 pub use buffer::WriteBuffer;
+pub use update::BufferView;
+pub use view::View;

@@ -1,4 +1,4 @@
-use Rattle.std.proofs.Common.{◌≡◌, ◌+◌, ◌++◌, ◌∷◌, [], length, ap, ◌∙◌, arith}
+use Rattle.std.proofs.Common.{arith}
 use Rattle.frame_pool.proofs.Frames.{none_free}
 use Rattle.write_buffer.proofs.Frames.{takes_more}
 use Rattle.write_buffer.proofs.buffer.take_frames.Goals as goal

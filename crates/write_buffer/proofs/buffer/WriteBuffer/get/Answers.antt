@@ -5,8 +5,8 @@ use Rattle.write_buffer.specs.Buffered.{Buffered}
 use Rattle.write_buffer.proofs.Written.{get_written, entry_some, entry_none}
 use Rattle.write_buffer.proofs.buffer.WriteBuffer.get.Goals as goal
 
-pub returns-then-is_marked : goal.returns-then-is_marked
-returns-then-is_marked c =
+pub returns-then-is_marked-clause-entry : goal.returns-then-is_marked-clause-entry
+returns-then-is_marked-clause-entry c =
     let pool = c.args.pool.now in
     let now = c.args.self.now in
     let a = c.args.a in
@@ -14,8 +14,8 @@ returns-then-is_marked c =
     let marked : is_marked now.masks a ≡ true = ap (λ (b : Buffered). is_marked b.masks a) (sym c.self.view_is) ∙ sym c.is_marked.ensures ∙ c.if-is_marked.true in
     ap (λ x. Some x) (to_z-of_z w64 c.value.result fits ∙ c.value.ensures) ∙ sym (get_written pool now a ∙ entry_some pool now a marked)
 
-pub returns-else-is_marked : goal.returns-else-is_marked
-returns-else-is_marked c =
+pub returns-else-is_marked-clause-entry : goal.returns-else-is_marked-clause-entry
+returns-else-is_marked-clause-entry c =
     let pool = c.args.pool.now in
     let now = c.args.self.now in
     let a = c.args.a in
