@@ -19,6 +19,7 @@ use Rattle.type_check.specs.declared.names.Declaration.TheVariants as declared
 use Rattle.type_check.specs.declared.names.Signature.{Signature}
 use Rattle.type_check.specs.Names.{Names, meant, declare}
 use Rattle.type_check.specs.Faults.{stands_for, with_shared, with_params, as_declared, with_own, touches_tally, with_function, with_functions, global_names}
+use Rattle.accepted_code.proofs.Lookups.{found_in, found_behind}
 
 -- the function with this name has these parameters and this result
 pub record Is (functions : List Function) (name : List ℕ) (d : Signature) : Type 0 where
@@ -33,30 +34,10 @@ Knows functions names = (name : List ℕ) (d : Signature) → lookup (bytes_eq n
 
 -- ---- names that are declared
 
--- what is found, or else this where the name is the same
-abbrev found_in : Option Declaration → Bool → Declaration → Option Declaration
-found_in (Some x) same d = Some x
-found_in None true d = Some d
-found_in None false d = None
-
 -- the first of two that is there
 abbrev first_named : Option Function → Option Function → Option Function
 first_named (Some f) other = Some f
 first_named None other = other
-
--- a name that is declared behind others is found, if none of them has it
-found_behind : (names : Names) (name other : List ℕ) (d : Declaration) → lookup (bytes_eq name) (names ++ (other, d) ∷ []) ≡ found_in (lookup (bytes_eq name) names) (bytes_eq name other) d
-found_behind [] name other d = by (bytes_eq name other)
-  where
-    by : (b : Bool) → (if b then Some d else None) ≡ found_in None b d
-    by true = refl
-    by false = refl
-found_behind ((key, x) ∷ names) name other d = by (bytes_eq name key) (found_behind names name other d)
-  where
-    by : (b : Bool) → lookup (bytes_eq name) (names ++ (other, d) ∷ []) ≡ found_in (lookup (bytes_eq name) names) (bytes_eq name other) d
-        → (if b then Some x else lookup (bytes_eq name) (names ++ (other, d) ∷ [])) ≡ found_in (if b then Some x else lookup (bytes_eq name) names) (bytes_eq name other) d
-    by true h = refl
-    by false h = h
 
 -- after a declaration that is no function's the same functions are known
 declared_other : (functions : List Function) (names : Names) (name : Name) (d : Declaration) → ((s : Signature) → d ≡ declared.Function s → ⊥) → Knows functions names → Knows functions (declare names name d)

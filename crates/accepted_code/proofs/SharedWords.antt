@@ -77,7 +77,7 @@ listed_before memory at a h =
     omega (arith, e, inside)
 
 -- the tally words of two memories, one behind the other
-tallies_append : (xs ys : Memory) (at : ℕ) → tallies_from at (xs ++ ys) ≡ tallies_from at xs ++ tallies_from (at + length xs) ys
+pub tallies_append : (xs ys : Memory) (at : ℕ) → tallies_from at (xs ++ ys) ≡ tallies_from at xs ++ tallies_from (at + length xs) ys
 tallies_append [] ys at = let here : at ≡ at + 0 = omega arith in ap (λ (n : ℕ). tallies_from n ys) here
 tallies_append (w ∷ xs) ys at = by w.kind (tallies_append xs ys (suc at) ∙ ap (λ (n : ℕ). tallies_from (suc at) xs ++ tallies_from n ys) same)
   where
@@ -90,7 +90,7 @@ tallies_append (w ∷ xs) ys at = by w.kind (tallies_append xs ys (suc at) ∙ a
     by Tally h = ap (λ (l : List ℕ). at ∷ l) h
 
 -- ordinary words hold no tally word
-no_tallies : (n : ℕ) (values : List ℤ) (at : ℕ) → tallies_from at (memory_of (replicate n Ordinary) values) ≡ []
+pub no_tallies : (n : ℕ) (values : List ℤ) (at : ℕ) → tallies_from at (memory_of (replicate n Ordinary) values) ≡ []
 no_tallies zero values at = refl
 no_tallies (suc n) [] at = refl
 no_tallies (suc n) (z ∷ values) at = no_tallies n values (suc at)

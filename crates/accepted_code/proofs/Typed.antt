@@ -30,6 +30,7 @@ use Rattle.type_check.proofs.CleanLemmas.{none_in_first, none_in_second, none_if
 use Rattle.compiled_code.specs.Sizes.{given_by}
 use Rattle.compiled_code.specs.Shape.{count, HasCount, HasValue, ValueIs, PlaceIs, CallIs, BoxedIs, ValuesAre}
 use Rattle.accepted_code.proofs.Known.{Is, Knows}
+use Rattle.cal_terms.proofs.Lists.{and_left, and_right}
 
 -- a type of values
 abbrev pub IsSome : Typed → Type 0
@@ -63,14 +64,6 @@ some_unary Not = refl
 good_unary : (op : UnaryOp) → is_bad (unary_operand op) ≡ false
 good_unary Neg = refl
 good_unary Not = refl
-
-and_left : (a b : Bool) → a && b ≡ true → a ≡ true
-and_left true b e = refl
-and_left false b e = cc
-
-and_right : (a b : Bool) → a && b ≡ true → b ≡ true
-and_right true b e = e
-and_right false b e = cc
 
 both_some : (want a b : Typed) → IsSome want → same want a && same want b ≡ true → IsSome a × IsSome b
 both_some want a b some e = (some_of want a some (and_left (same want a) (same want b) e), some_of want b some (and_right (same want a) (same want b) e))
@@ -164,24 +157,24 @@ called fs name (Some (declared.Function d)) n known used counts =
     true_of false e = cc
 
 -- the parts of a call without faults
-record Parts (body : Body) (names : Names) (name : Name) {n : _} (args : Row_of-Expr n) : Type 0 where
-  used : use_faults name (meant names name) (as_call (meant names name)) ≡ []
-  counts : count_faults name (meant names name) (count args) ≡ []
-  arguments : argument_faults body names (params_of (meant names name)) args ≡ []
+pub record Parts (body : Body) (names : Names) (name : Name) {n : _} (args : Row_of-Expr n) : Type 0 where
+  pub used : use_faults name (meant names name) (as_call (meant names name)) ≡ []
+  pub counts : count_faults name (meant names name) (count args) ≡ []
+  pub arguments : argument_faults body names (params_of (meant names name)) args ≡ []
 
-parts_of : (body : Body) (names : Names) (name : Name) {n : _} (args : Row_of-Expr n)
+pub parts_of : (body : Body) (names : Names) (name : Name) {n : _} (args : Row_of-Expr n)
     → use_faults name (meant names name) (as_call (meant names name)) ++ tally_faults body name (call_touches (meant names name)) ++ count_faults name (meant names name) (checked.count args) ++ argument_faults body names (params_of (meant names name)) args ≡ []
     → Parts body names name args
 parts_of body names name args e =
-    let first_three = none_in_first (use_faults name (meant names name) (as_call (meant names name)) ++ tally_faults body name (call_touches (meant names name)) ++ count_faults name (meant names name) (checked.count args)) (argument_faults body names (params_of (meant names name)) args) e in
+    let used = use_faults name (meant names name) (as_call (meant names name)) in
+    let tallies = tally_faults body name (call_touches (meant names name)) in
+    let counts = count_faults name (meant names name) (checked.count args) in
+    let arguments = argument_faults body names (params_of (meant names name)) args in
+    let first_three = none_in_first (used ++ tallies ++ counts) arguments e in
     record {
-      used =
-          none_in_first (use_faults name (meant names name) (as_call (meant names name))) (tally_faults body name (call_touches (meant names name)))
-          (none_in_first (use_faults name (meant names name) (as_call (meant names name)) ++ tally_faults body name (call_touches (meant names name))) (count_faults name (meant names name) (checked.count args)) first_three);
-      counts =
-          subst (λ (n : ℕ). count_faults name (meant names name) n ≡ []) (same_count args)
-          (none_in_second (use_faults name (meant names name) (as_call (meant names name)) ++ tally_faults body name (call_touches (meant names name))) (count_faults name (meant names name) (checked.count args)) first_three);
-      arguments = none_in_second (use_faults name (meant names name) (as_call (meant names name)) ++ tally_faults body name (call_touches (meant names name)) ++ count_faults name (meant names name) (checked.count args)) (argument_faults body names (params_of (meant names name)) args) e;
+      used = none_in_first used tallies (none_in_first (used ++ tallies) counts first_three);
+      counts = subst (λ (n : ℕ). count_faults name (meant names name) n ≡ []) (same_count args) (none_in_second (used ++ tallies) counts first_three);
+      arguments = none_in_second (used ++ tallies ++ counts) arguments e;
     }
 
 module _ (p : Program) (body : Body) (names : Names) (knows : Knows p.functions names) where

@@ -44,6 +44,8 @@ use Rattle.compiled_code.specs.Shape.{count, ValueIs, PlaceIs, BoxedIs, ValuesAr
 use Rattle.accepted_code.proofs.Permits.{Permits}
 use Rattle.accepted_code.proofs.Fits.{OperandsFit, pushed, IsItems, ReadFits, CallFits, ValueFits, PlaceFits, BoxedFits, ValuesFit}
 use Rattle.accepted_code.proofs.Agrees.{Means, Agrees}
+use Rattle.cal_terms.proofs.Lists.{and_left, and_right, true_of}
+use Rattle.accepted_code.proofs.Typed.{Parts, parts_of}
 
 -- ---- types and kinds
 
@@ -113,14 +115,6 @@ binary_gives Ge true = refl
 binary_gives And true = refl
 binary_gives Or true = refl
 
-and_left : (a b : Bool) → a && b ≡ true → a ≡ true
-and_left true b e = refl
-and_left false b e = cc
-
-and_right : (a b : Bool) → a && b ≡ true → b ≡ true
-and_right true b e = e
-and_right false b e = cc
-
 both_kinds : (want a b : Typed) (k l : Ty) → same want a && same want b ≡ true → IsKind a k → IsKind b l → IsKind want k × IsKind want l
 both_kinds want a b k l e h g = (kind_wanted want a k (and_left (same want a) (same want b) e) h, kind_wanted want b l (and_right (same want a) (same want b) e) g)
 
@@ -174,31 +168,6 @@ equal a b e = grind (arith)
 
 pred : (a b : ℕ) → suc a ≡ suc b → a ≡ b
 pred a b e = grind (arith)
-
--- the parts of a call without faults
-record Parts (body : Body) (names : Names) (name : Name) {n : _} (args : Row_of-Expr n) : Type 0 where
-  used : use_faults name (meant names name) (as_call (meant names name)) ≡ []
-  counts : count_faults name (meant names name) (count args) ≡ []
-  arguments : argument_faults body names (params_of (meant names name)) args ≡ []
-
-parts_of : (body : Body) (names : Names) (name : Name) {n : _} (args : Row_of-Expr n)
-    → use_faults name (meant names name) (as_call (meant names name)) ++ tally_faults body name (call_touches (meant names name)) ++ count_faults name (meant names name) (checked.count args) ++ argument_faults body names (params_of (meant names name)) args ≡ []
-    → Parts body names name args
-parts_of body names name args e =
-    let used = use_faults name (meant names name) (as_call (meant names name)) in
-    let tallies = tally_faults body name (call_touches (meant names name)) in
-    let counts = count_faults name (meant names name) (checked.count args) in
-    let arguments = argument_faults body names (params_of (meant names name)) args in
-    let first_three = none_in_first (used ++ tallies ++ counts) arguments e in
-    record {
-      used = none_in_first used tallies (none_in_first (used ++ tallies) counts first_three);
-      counts = subst (λ (n : ℕ). count_faults name (meant names name) n ≡ []) (same_count args) (none_in_second (used ++ tallies) counts first_three);
-      arguments = none_in_second (used ++ tallies ++ counts) arguments e;
-    }
-
-true_of : (b : Bool) → not b ≡ false → b ≡ true
-true_of true e = refl
-true_of false e = cc
 
 -- as many arguments as parameters
 counted : (name : Name) (o : Option Declaration) (n : ℕ) → use_faults name o (as_call o) ≡ [] → count_faults name o n ≡ [] → n ≡ length (params_of o)

@@ -4,6 +4,7 @@ use Rattle.std.proofs.lemmas.Bool.{cases_lt, ltb-true, ltb-false, lt-ltb, le-ltb
 use Rattle.std.proofs.lemmas.Nat.{div_below}
 use Rattle.bytecode.specs.Spelling.{num_in, num}
 use Rattle.bytecode.specs.Reading.{Read, ◌>>=◌, num_at}
+pub use Rattle.cal_terms.proofs.Lists.{some_same}
 
 abbrev pub IsBytes : List ℕ → Type 0
 IsBytes bytes = (i : ℕ) → get_or bytes i 0 < 256
@@ -32,9 +33,6 @@ when_some false x y e = absurd cc
 pub unless_some : {A : Type 0} (b : Bool) (x : Option A) (y : A) → cond b None x ≡ Some y → (b ≡ false) × (x ≡ Some y)
 unless_some false x y e = (refl, e)
 unless_some true x y e = absurd cc
-
-pub some_same : {A : Type 0} (x y : A) (o : Option A) → o ≡ Some x → o ≡ Some y → x ≡ y
-some_same x y o p q = cc
 
 pub num_in_more : (most n : ℕ) → 0 < most → 128 ≤ n → num_in most n ≡ (128 + n % 128) ∷ num_in (most - 1) (n / 128)
 unfolding num_in

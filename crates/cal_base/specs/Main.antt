@@ -5,6 +5,7 @@ use Rattle.cal_base.specs.declared.ends.RunEnd.TheVariants.{StepFailed}
 use Rattle.cal_base.specs.declared.ends.StepFault.{StepFault}
 use Rattle.cal_base.specs.Memory.{Memory}
 use Rattle.cal_base.specs.Claims.{StepJob, size_of, meant}
+use Rattle.cal_terms.specs.declared.limits.TheConstants.{MOST_ROUTINES}
 
 -- what main does next: it ends, shows a line with its line feed, or opens a step and goes on with the memory that the step leaves
 pub data Main : Type 0 where
@@ -56,4 +57,4 @@ steps_of (Opens job next) = job ∷ steps_behind (meant job) (λ later. steps_of
 abbrev pub IsNumbered : ℕ → Main → Type 0
 IsNumbered steps (Ends ending) = Unit {0}
 IsNumbered steps (Shows line main) = IsNumbered steps main
-IsNumbered steps (Opens job next) = (job.number ≡ suc steps) × (size_of job ≤ 65536) × ((later : Memory) → IsNumbered (suc steps) (next later))
+IsNumbered steps (Opens job next) = (job.number ≡ suc steps) × (size_of job ≤ MOST_ROUTINES) × ((later : Memory) → IsNumbered (suc steps) (next later))

@@ -1,9 +1,10 @@
 -- The widths of a step's blocks.
 use Rattle.std.specs.Prelude.{ℕ, ℤ, pos, negsuc, nat_le, if◌then◌else◌, List, [], ◌∷◌, sum, Option, Some, None}
+use Rattle.cal_terms.specs.declared.limits.TheConstants.{MOST_ROUTINES}
 
 -- how many routines a step has at most
 abbrev pub most_routines : ℕ
-most_routines = 65536
+most_routines = MOST_ROUTINES
 
 -- one more width in front, unless it or another one is negative
 abbrev pub and_natural : ℤ → Option (List ℕ) → Option (List ℕ)

@@ -4,13 +4,14 @@ ghost use Rattle.std.specs.Prelude.{◌≡◌, ◌≤◌};
 ghost use Rattle.cal_base.specs.Claims.{claim_bound, arrival_bound};
 
 use cal_terms::WordKind;
+use cal_terms::limits::MOST_ROUTINES;
 
 /// The number under which the caller claims; workers are numbered below it.
 pub const CALLER: u8 = 32;
 
 /// How many claims by workers a step of n routines takes.
 pub fn claim_bound(n: u32) -> u32
-    requires { n ≤ 65536 }
+    requires { n ≤ MOST_ROUTINES }
     ensures { result ≡ claim_bound n }
 {
     3 * n + 32
@@ -18,7 +19,7 @@ pub fn claim_bound(n: u32) -> u32
 
 /// How many arrivals by workers a step of n routines takes.
 pub fn arrival_bound(n: u32) -> u32
-    requires { n ≤ 65536 }
+    requires { n ≤ MOST_ROUTINES }
     ensures { result ≡ arrival_bound n }
 {
     2 * claim_bound(n) + 32

@@ -1,12 +1,12 @@
 -- What a load tells of the text that the file holds.
-use Rattle.std.proofs.Common.{◌≡◌, ◌≤◌, ◌<◌, ◌+◌, ℕ, List, length, take, min, Option, Some, None, refl, sym, ap, ◌∙◌, subst, arith}
+use Rattle.std.proofs.Common.{◌≡◌, ◌≤◌, ◌<◌, ◌+◌, ℕ, List, length, take, Option, Some, None, ap, ◌∙◌, subst, arith}
 use Rattle.std.specs.Prelude.{MatchOption, IsSomeAnd}
 use Rattle.std.proofs.lemmas.List.{length-take, take_all}
 use Rattle.cal_base.specs.Contents.{Contents, Loads}
 use Rattle.csl_grammar.specs.Texts.{text_limit}
 use Rattle.csl_reader.specs.declared.refusal.Refusal.{Refusal}
 use Rattle.csl_reader.specs.declared.refusal.ReadError.TheVariants.{Refused}
-use Rattle.csl_reader.specs.Readings.{Reading, refused, IsRead}
+use Rattle.csl_reader.specs.Readings.{refused}
 use Rattle.csl_reader.specs.Errors.{IsRefused}
 use Rattle.calypso_cli.specs.Steps.{Holds, ReadsAs}
 

@@ -1,113 +1,163 @@
 -- The promise of the top call follows from what carrying out the command ensures.
-use Rattle.std.proofs.Common.{◌≡◌, ◌⊎◌, ◌≤◌, ℕ, List, [], ◌++◌, Option, Some, None, refl, sym, ap, ◌∙◌, subst, arith, inl, inr, append-nil}
-use Rattle.std.specs.Io.KnownBytes.{Appends}
+use Rattle.std.proofs.Common.{◌≡◌, ◌⊎◌, ◌≤◌, ◌==◌, ◌&&◌, ℕ, Bool, true, false, not, List, [], Option, Some, None, is_some, if◌then◌else◌, refl, sym, ap, ◌∙◌, subst, arith, inl, inr, append-nil}
 use Rattle.std.proofs.KnownBytes.{Appends-nil}
 use Rattle.cal_base.specs.declared.ends.RunEnd.{RunEnd}
 use Rattle.cal_base.specs.declared.ends.RunEnd.TheVariants.{Done, MainFault, StepFailed}
-use Rattle.cal_base.specs.Contents.{Contents, Told, SameFiles, AppendsPrefix}
-use Rattle.csl_tree.specs.declared.program.Program.{Program}
+use Rattle.cal_base.specs.Contents.{Contents, Told, SameFiles}
 use Rattle.csl_meaning.specs.Meaning.{meaning}
-use Rattle.calypso_cli.specs.Endings.{Ending, done, no_command, cannot_use, refused, fault, no_memory, output_failed, too_long, status_of, err_text}
-use Rattle.calypso_cli.specs.Commands.{Command, check, eval, run, command_of, CanEnd, CanEndRun, ended, fuel, run_of, check_of}
-use Rattle.calypso_cli.specs.Steps as step
-use Rattle.calypso_cli.specs.Promise.{Objects, Outside, CountsStay, RanToEnd, Gets, Works, DoesCommand, DoesNothing, KeepsPromise}
-use Rattle.calypso_cli.proofs.Kept.{LoadsOne, does_stop}
+use Rattle.command_words.specs.Commands.{Flags, Command, check, eval, run}
+use Rattle.calypso_cli.specs.Endings.{Part, files, out, Ending, done, no_command, cannot_load, cannot_write, refused, fault, no_memory, output_failed, script_refused, events_refused, too_long, module_refused, kind_of, status_of, err_text}
+use Rattle.calypso_cli.specs.Outcomes.{Sight}
+use Rattle.calypso_cli.specs.Commands.{CanEnd, RunsProgram, ended, usual_fuel, run_of, check_of}
+use Rattle.calypso_cli.specs.Served.{is_usual, is_served, served}
+use Rattle.calypso_cli.specs.Promise.{Objects, Outside, faults_of, CountsStay, Worked, for_memory, Touches, HoldsFront, as_before, HoldsFronts, Sees, Gets, Works, DoesCommand, DoesNothing, KeepsPromise, MayUse, MayDo}
+use Rattle.calypso_cli.proofs.Kept.{LoadsOne, itself_not}
 
 -- files that no call touched hold what they held
 pub same_files : (o : Option Contents) → Told o o SameFiles
 same_files None = tt
-same_files (Some files) = λ name. refl
+same_files (Some contents) = λ name. refl
 
--- a run ends as it can, and to its end
-run_can_end : (file : List ℕ) (e : RunEnd) → CanEndRun file (ended e)
-run_can_end file (Done steps) = tt
-run_can_end file (MainFault after cause) = refl
-run_can_end file (StepFailed step failure) = refl
+-- a run ends as it can, and did its work
+run_can_end : (command : Command) → RunsProgram command → (e : RunEnd) → CanEnd command (ended e)
+run_can_end command runs (Done steps) = tt
+run_can_end command runs (MainFault after cause) = (runs, refl)
+run_can_end command runs (StepFailed step failure) = (runs, refl)
 
-run_ran : (e : RunEnd) → RanToEnd (ended e)
-run_ran (Done steps) = inl refl
-run_ran (MainFault after cause) = inr refl
-run_ran (StepFailed step failure) = inr refl
+run_worked : (e : RunEnd) → Worked (ended e)
+run_worked (Done steps) = refl
+run_worked (MainFault after cause) = refl
+run_worked (StepFailed step failure) = refl
+
+-- ---- the commands that load one program
 
 pub loads_check : (file : List ℕ) → LoadsOne (check file) file check_of
 loads_check file = record {
-  comes = λ contents outcome h. h;
-  back = λ contents outcome h. h;
+  comes = λ sight outcome h. h;
+  back = λ sight outcome h. h;
+  loaded_by = refl;
   unwritten = λ name h. h;
-  tells = λ contents. refl;
-  reports = λ ending. refl;
-  can_miss = refl;
-  can_want = tt;
-  can_refuse = λ at why. tt;
-  can_be_long = refl;
-  can_fail = tt;
+  writes = λ sight. refl;
+  reports = λ sight. refl;
+  may_report = refl;
+  program = tt;
+  writes_out = tt;
   can_work = λ p. tt;
-  ran = λ p. inl refl;
+  works = λ p. refl;
 }
 
-pub loads_eval : (file : List ℕ) → LoadsOne (eval file) file run_of
+pub loads_eval : (file : List ℕ) → LoadsOne (eval file) file (λ p. run_of false (meaning p usual_fuel))
 loads_eval file = record {
-  comes = λ contents outcome h. h;
-  back = λ contents outcome h. h;
+  comes = λ sight outcome h. h;
+  back = λ sight outcome h. h;
+  loaded_by = refl;
   unwritten = λ name h. h;
-  tells = λ contents. refl;
-  reports = λ ending. refl;
-  can_miss = refl;
-  can_want = tt;
-  can_refuse = λ at why. tt;
-  can_be_long = refl;
-  can_fail = tt;
-  can_work = λ p. run_can_end file (meaning p fuel).ending;
-  ran = λ p. run_ran (meaning p fuel).ending;
+  writes = λ sight. refl;
+  reports = λ sight. refl;
+  may_report = refl;
+  program = tt;
+  writes_out = tt;
+  can_work = λ p. run_can_end (eval file) tt (meaning p usual_fuel).ending;
+  works = λ p. run_worked (meaning p usual_fuel).ending;
 }
 
-pub loads_run : (file : List ℕ) → LoadsOne (run file) file run_of
-loads_run file = record {
-  comes = λ contents outcome h. h;
-  back = λ contents outcome h. h;
-  unwritten = λ name h. h;
-  tells = λ contents. refl;
-  reports = λ ending. refl;
-  can_miss = refl;
-  can_want = tt;
-  can_refuse = λ at why. tt;
-  can_be_long = refl;
-  can_fail = tt;
-  can_work = λ p. run_can_end file (meaning p fuel).ending;
-  ran = λ p. run_ran (meaning p fuel).ending;
+abbrev usual : Flags
+usual = record { workers = 4; fuel = 1000000; frames = 64; script = None; log = None; report = false; steps = false }
+
+some_none : (name : List ℕ) (o : Option (List ℕ)) → o ≡ None → o ≡ Some name → ⊥
+some_none name o e f = cc
+
+loads_usual : (file : List ℕ) → LoadsOne (run file usual) file (λ p. run_of false (meaning p usual_fuel))
+loads_usual file = record {
+  comes = λ sight outcome h. h;
+  back = λ sight outcome h. h;
+  loaded_by = inl refl;
+  unwritten = λ name h. some_none name None refl h;
+  writes = λ sight. refl;
+  reports = λ sight. refl;
+  may_report = refl;
+  program = tt;
+  writes_out = tt;
+  can_work = λ p. run_can_end (run file usual) tt (meaning p usual_fuel).ending;
+  works = λ p. run_worked (meaning p usual_fuel).ending;
 }
+
+-- options that are as usual
+usual_is : (flags : Flags) → is_usual flags ≡ true → flags ≡ usual
+usual_is flags h = by flags.workers flags.fuel flags.frames flags.script flags.log flags.report flags.steps h where
+  numbers : (w f n : ℕ) → w ≡ 4 → f ≡ 1000000 → n ≡ 64
+      → record { workers = w; fuel = f; frames = n; script = None; log = None; report = false; steps = false } ≡ usual
+  numbers w f n a b c =
+      ap (λ x. record { workers = x; fuel = f; frames = n; script = None; log = None; report = false; steps = false }) a
+      ∙ ap (λ x. record { workers = 4; fuel = x; frames = n; script = None; log = None; report = false; steps = false }) b
+      ∙ ap (λ x. record { workers = 4; fuel = 1000000; frames = x; script = None; log = None; report = false; steps = false }) c
+
+  by : (w f n : ℕ) (s l : Option (List ℕ)) (r t : Bool) → (w == 4 && (f == 1000000 && (n == 64 && (not (is_some s) && (not (is_some l) && (not r && not t)))))) ≡ true
+      → record { workers = w; fuel = f; frames = n; script = s; log = l; report = r; steps = t } ≡ usual
+  by w f n None None false false h = numbers w f n (grind (arith, h)) (grind (arith, h)) (grind (arith, h))
+  by w f n (Some s) l r t h = absurd (grind (arith, h))
+  by w f n None (Some l) r t h = absurd (grind (arith, h))
+  by w f n None None true t h = absurd (grind (arith, h))
+  by w f n None None false true h = absurd (grind (arith, h))
+
+pub loads_run : (file : List ℕ) (flags : Flags) → is_usual flags ≡ true → LoadsOne (run file flags) file (λ p. run_of false (meaning p usual_fuel))
+loads_run file flags h = subst (λ f. LoadsOne (run file f) file (λ p. run_of false (meaning p usual_fuel))) (sym (usual_is flags h)) (loads_usual file)
+
+-- ---- nothing was done
+
+old_front : (command : Command) (sight : Sight) (contents : Contents) → Some contents ≡ Some sight.files → (name : List ℕ) → HoldsFront command sight name (contents name)
+old_front command sight contents e name = let same : sight.files ≡ contents = cc in subst (λ c. HoldsFront command sight name (c name)) same as_before
+
+old_fronts : (command : Command) (sight : Sight) (told : Option Contents) → Sees command told sight → HoldsFronts command sight told
+old_fronts command sight None sees = tt
+old_fronts command sight (Some contents) (inl is) = λ name written. old_front command sight contents is name
+old_fronts command sight (Some contents) (inr (none, loads_none)) = absurd (cc)
+
+untouched : (command : Command) (ending : Ending) (o : Option Contents) → Told o o (Touches command ending)
+untouched command ending None = tt
+untouched command ending (Some contents) = record { others = λ name no. refl; turned_away = λ away name. refl }
 
 -- memory was wanted before anything was done
 works_nothing : (command : Command) (objects : Objects) → Works command objects objects no_memory []
-works_nothing (check file) objects = does_stop (check file) file check_of (loads_check file) objects objects (same_files objects.files) refl step.no_room
-works_nothing (eval file) objects = does_stop (eval file) file run_of (loads_eval file) objects objects (same_files objects.files) refl step.no_room
-works_nothing (run file) objects = does_stop (run file) file run_of (loads_run file) objects objects (same_files objects.files) refl step.no_room
+works_nothing command objects = record {
+  can_end = tt;
+  causes = λ part f. absurd (cc);
+  reports = λ did. absurd (cc);
+  silent = λ no. refl;
+  unwritten = λ h. absurd h;
+  out_kept = λ h. Appends-nil objects.out;
+  files = untouched command no_memory objects.files;
+  told = λ sight sees. record {
+    comes = λ itself. absurd (itself_not (kind_of no_memory) itself refl);
+    fails = λ f. absurd (cc);
+    wrote = inl (Appends-nil objects.out);
+    runs = λ outcome goes. record {
+      ends = for_memory;
+      text = λ did. absurd (cc);
+      front = ([], refl, Appends-nil objects.out);
+      complete = λ quiet. inl refl;
+    };
+    tells = λ did. absurd (cc);
+    fronts = old_fronts command sight objects.files sees;
+  };
+}
 
--- no command ends with the status of wrong words
-not_two_run : (file : List ℕ) (ending : Ending) → CanEndRun file ending → status_of ending ≡ 2 → ⊥
-not_two_run file done h two = omega (arith, two)
-not_two_run file no_command h two = h
-not_two_run file (cannot_use name) h two = omega (arith, two)
-not_two_run file (refused at why) h two = omega (arith, two)
-not_two_run file (fault ending) h two = omega (arith, two)
-not_two_run file no_memory h two = omega (arith, two)
-not_two_run file output_failed h two = omega (arith, two)
-not_two_run file (too_long name) h two = omega (arith, two)
+-- ---- promises
 
-not_two_check : (file : List ℕ) (ending : Ending) → CanEnd (check file) ending → status_of ending ≡ 2 → ⊥
-not_two_check file done h two = omega (arith, two)
-not_two_check file no_command h two = h
-not_two_check file (cannot_use name) h two = omega (arith, two)
-not_two_check file (refused at why) h two = omega (arith, two)
-not_two_check file (fault ending) h two = omega (arith, two)
-not_two_check file no_memory h two = omega (arith, two)
-not_two_check file output_failed h two = omega (arith, two)
-not_two_check file (too_long name) h two = omega (arith, two)
-
+-- no command ends with the status of no command
 not_two : (command : Command) (ending : Ending) → CanEnd command ending → status_of ending ≡ 2 → ⊥
-not_two (check file) ending h two = not_two_check file ending h two
-not_two (eval file) ending h two = not_two_run file ending h two
-not_two (run file) ending h two = not_two_run file ending h two
+not_two command done h two = omega (arith, two)
+not_two command no_command h two = h
+not_two command (cannot_load name) h two = omega (arith, two)
+not_two command (cannot_write name) h two = omega (arith, two)
+not_two command (refused at why) h two = omega (arith, two)
+not_two command (fault ending) h two = omega (arith, two)
+not_two command no_memory h two = omega (arith, two)
+not_two command output_failed h two = omega (arith, two)
+not_two command script_refused h two = omega (arith, two)
+not_two command (events_refused number) h two = omega (arith, two)
+not_two command (too_long name) h two = omega (arith, two)
+not_two command module_refused h two = omega (arith, two)
 
 same_command : (one two : Command) (o : Option Command) → o ≡ Some one → o ≡ Some two → one ≡ two
 same_command one two o e f = cc
@@ -125,22 +175,34 @@ does command before after status ending works line answers = record {
   works = works;
 }
 
--- the words give the command, which was carried out
-pub promise_of_command : (words : List (List ℕ)) (before after : Outside) (status : ℕ) (command : Command) (ending : Ending) → command_of words ≡ Some command
+-- no count fell
+pub counts_stay : (before after : Outside) → before.objects.file_faults ≤ after.objects.file_faults → before.objects.out_faults ≤ after.objects.out_faults
+    → before.err_faults ≤ after.err_faults → CountsStay before after
+counts_stay before after a b c = record { parts = by; err = c } where
+  by : (part : Part) → faults_of part before.objects ≤ faults_of part after.objects
+  by files = a
+  by out = b
+
+-- there is a command, and it was carried out
+pub promise_of_command : (given : Option Command) (before after : Outside) (status : ℕ) (command : Command) (ending : Ending) → given ≡ Some command
     → Works command before.objects after.objects ending [] → Gets before.err after.err before.err_faults after.err_faults (err_text ending)
-    → status ≡ status_of ending → CountsStay before after → KeepsPromise words before after status
-promise_of_command words before after status command ending is works line answers counts = record {
-  only_wrong_words = λ two. absurd (not_two command ending works.can_end (sym answers ∙ two));
-  wrong_words = λ wrong. absurd (not_none command (command_of words) is wrong);
-  nothing = λ wrong. absurd (not_none command (command_of words) is wrong);
-  command = λ other also. subst (λ k. DoesCommand k before after status) (same_command command other (command_of words) is also)
+    → status ≡ status_of ending → CountsStay before after → KeepsPromise given before after status
+promise_of_command given before after status command ending is works line answers counts = record {
+  only_no_command = λ two. absurd (not_two command ending works.can_end (sym answers ∙ two));
+  no_command = λ none. absurd (not_none command given is none);
+  nothing = λ none. absurd (not_none command given is none);
+  command = λ other also. subst (λ k. DoesCommand k before after status) (same_command command other given is also)
       (does command before after status ending works line answers);
   counts = counts;
 }
 
+-- the same with err changed and nothing else
+abbrev pub with_err : Objects → Option (List ℕ) → ℕ → Outside
+with_err objects err err_faults = record { objects = objects; err = err; err_faults = err_faults }
+
 nothing_done : (objects : Objects) (before_err after_err : Option (List ℕ)) (before_faults after_faults status : ℕ) (ending : Ending) → (ending ≡ no_command) ⊎ (ending ≡ no_memory)
     → Gets before_err after_err before_faults after_faults (err_text ending) → status ≡ status_of ending
-    → DoesNothing (record { objects = objects; err = before_err; err_faults = before_faults }) (record { objects = objects; err = after_err; err_faults = after_faults }) status
+    → DoesNothing (with_err objects before_err before_faults) (with_err objects after_err after_faults) status
 nothing_done objects before_err after_err before_faults after_faults status ending why line answers = record {
   ending = ending;
   why = why;
@@ -150,27 +212,49 @@ nothing_done objects before_err after_err before_faults after_faults status endi
   files = same_files objects.files;
 }
 
--- the words give no command
-pub promise_of_none : (words : List (List ℕ)) (objects : Objects) (before_err after_err : Option (List ℕ)) (before_faults after_faults status : ℕ) → command_of words ≡ None
+err_counts : (objects : Objects) (before_err after_err : Option (List ℕ)) (before_faults after_faults : ℕ) → before_faults ≤ after_faults
+    → CountsStay (with_err objects before_err before_faults) (with_err objects after_err after_faults)
+err_counts objects before_err after_err before_faults after_faults later =
+    counts_stay (with_err objects before_err before_faults) (with_err objects after_err after_faults) (omega arith) (omega arith) later
+
+-- there is no command
+pub promise_of_none : (given : Option Command) (objects : Objects) (before_err after_err : Option (List ℕ)) (before_faults after_faults status : ℕ) → given ≡ None
     → Gets before_err after_err before_faults after_faults (err_text no_command) → status ≡ 2 → before_faults ≤ after_faults
-    → KeepsPromise words (record { objects = objects; err = before_err; err_faults = before_faults }) (record { objects = objects; err = after_err; err_faults = after_faults }) status
-promise_of_none words objects before_err after_err before_faults after_faults status wrong line two later = record {
-  only_wrong_words = λ h. wrong;
-  wrong_words = λ h. inl two;
+    → KeepsPromise given (with_err objects before_err before_faults) (with_err objects after_err after_faults) status
+promise_of_none given objects before_err after_err before_faults after_faults status none line two later = record {
+  only_no_command = λ h. none;
+  no_command = λ h. inl two;
   nothing = λ h. nothing_done objects before_err after_err before_faults after_faults status no_command (inl refl) line two;
-  command = λ command is. absurd (not_none command (command_of words) is wrong);
-  counts = record { file_faults = omega arith; out_faults = omega arith; err_faults = later };
+  command = λ command is. absurd (not_none command given is none);
+  counts = err_counts objects before_err after_err before_faults after_faults later;
 }
 
 -- memory was wanted to read the words
-pub promise_of_no_memory : (words : List (List ℕ)) (objects : Objects) (before_err after_err : Option (List ℕ)) (before_faults after_faults status : ℕ)
+pub promise_of_no_memory : (given : Option Command) (objects : Objects) (before_err after_err : Option (List ℕ)) (before_faults after_faults status : ℕ)
     → Gets before_err after_err before_faults after_faults (err_text no_memory) → status ≡ 6 → before_faults ≤ after_faults
-    → KeepsPromise words (record { objects = objects; err = before_err; err_faults = before_faults }) (record { objects = objects; err = after_err; err_faults = after_faults }) status
-promise_of_no_memory words objects before_err after_err before_faults after_faults status line six later = record {
-  only_wrong_words = λ two. absurd (omega (arith, two, six));
-  wrong_words = λ h. inr six;
+    → KeepsPromise given (with_err objects before_err before_faults) (with_err objects after_err after_faults) status
+promise_of_no_memory given objects before_err after_err before_faults after_faults status line six later = record {
+  only_no_command = λ two. absurd (omega (arith, two, six));
+  no_command = λ h. inr six;
   nothing = λ h. nothing_done objects before_err after_err before_faults after_faults status no_memory (inr refl) line six;
-  command = λ command is. does command (record { objects = objects; err = before_err; err_faults = before_faults }) (record { objects = objects; err = after_err; err_faults = after_faults })
-      status no_memory (works_nothing command objects) line six;
-  counts = record { file_faults = omega arith; out_faults = omega arith; err_faults = later };
+  command = λ command is. does command (with_err objects before_err before_faults) (with_err objects after_err after_faults) status no_memory (works_nothing command objects) line six;
+  counts = err_counts objects before_err after_err before_faults after_faults later;
 }
+
+-- a command that is served, and one that is not
+pub is_given : (command : Command) → is_served command ≡ true → served (Some command) ≡ Some command
+is_given command h = ap (λ b. if b then Some command else None) h
+
+pub not_given : (command : Command) → is_served command ≡ false → served (Some command) ≡ None
+not_given command h = ap (λ b. if b then Some command else None) h
+
+-- what a served command may use
+pub may_use : (may_load may_write : List ℕ → Type 0) (command : Command) → is_served command ≡ true → MayDo may_load may_write (served (Some command)) → MayUse may_load may_write command
+may_use may_load may_write command h may = may command (is_given command h)
+
+-- a served command was carried out
+pub promise_of_served : (before after : Outside) (status : ℕ) (command : Command) (ending : Ending) → is_served command ≡ true
+    → Works command before.objects after.objects ending [] → Gets before.err after.err before.err_faults after.err_faults (err_text ending)
+    → status ≡ status_of ending → CountsStay before after → KeepsPromise (served (Some command)) before after status
+promise_of_served before after status command ending h works line answers counts =
+    promise_of_command (served (Some command)) before after status command ending (is_given command h) works line answers counts

@@ -1,113 +1,183 @@
--- What the words of the command line give, and what a command comes to. A command joins by one case of each definition.
-use Rattle.std.specs.Prelude.{◌≡◌, ◌≤◌, ◌<◌, ℕ, Bool, false, not, ◌&&◌, ◌==◌, if◌then◌else◌, None, Some, List, [], ◌∷◌, length, codes}
-use Rattle.std.specs.Str.{bytes_eq}
-use Rattle.std.specs.declared.option.Option.{Option}
-use Rattle.cal_base.specs.Contents.{Contents}
+-- The tables of commands: which files each loads and writes, which endings it can have, what it comes to, and what it writes and reports. A command that
+-- joins, or an option, is a case in each; `NoRowYet` stands where a command's formats are not defined yet, and such a command is not served.
+use Rattle.std.specs.Prelude.{◌≡◌, ◌⊎◌, ℕ, Bool, true, false, Option, None, Some, List, []}
+use Rattle.std.specs.Prelude.{◌≤◌, length}
 use Rattle.cal_base.specs.declared.ends.RunEnd.{RunEnd}
 use Rattle.cal_base.specs.declared.ends.RunEnd.TheVariants.{Done, MainFault, StepFailed}
+use Rattle.cal_base.specs.Main.{Meaning, steps_of}
 use Rattle.cal_base.specs.Text as base
 use Rattle.csl_tree.specs.declared.program.Program.{Program}
 use Rattle.csl_grammar.specs.Texts.{text_limit}
-use Rattle.csl_meaning.specs.Meaning.{meaning}
+use Rattle.csl_meaning.specs.Meaning.{main, meaning}
 use Rattle.csl_print.specs.Canonical.{canonical}
 use Rattle.csl_reader.specs.declared.refusal.Refusal.{Refusal}
 use Rattle.csl_reader.specs.Readings as reading
 use Rattle.csl_reader.specs.Readings.{IsRead}
-use Rattle.calypso_cli.specs.Endings.{Ending, done, cannot_use, refused, fault, too_long, no_command, no_memory, output_failed}
+use Rattle.bytecode.specs.declared.module.Module.{Module}
+use Rattle.bytecode.specs.Spelling.{spelling, HasSpelling}
+use Rattle.code_verify.specs.Rules.{IsVerified}
+use Rattle.machine_meaning.specs.Meaning.{machine_main, machine_meaning}
+use Rattle.command_words.specs.Commands.{Flags, Command, check, eval, run, sim, build, exec, gen, selfrun}
+use Rattle.calypso_cli.specs.Endings.{Ending, done, no_command, cannot_load, cannot_write, refused, fault, no_memory, output_failed, script_refused, events_refused, too_long, module_refused}
+use Rattle.calypso_cli.specs.Outcomes.{Sight, Outcome, Work, Loads, Creates, Does}
+use Rattle.calypso_cli.specs.Traces.{Trace, Row, Tallies, IsTraceOf, log_text, AreTalliesOf, FollowScript, Agree, report_text}
 
--- a command with its operands
-pub data Command : Type 0 where
-  -- writes the canonical text of the program in a file
-  check : (file : List ℕ) → Command
-  -- runs the program in a file on one thread
-  eval : (file : List ℕ) → Command
-  -- runs the program in a file
-  run : (file : List ℕ) → Command
+-- a format of this command is not defined yet
+abbrev pub NoRowYet : Type 0
+NoRowYet = ⊥
 
--- the word can be an operand: it is not empty and does not begin with a dash
-abbrev pub is_operand : List ℕ → Bool
-is_operand [] = false
-is_operand (first ∷ rest) = not (first == 45)
-
--- the command with this name and this one operand, or none
-abbrev pub with_file : (verb file : List ℕ) → Option Command
-with_file verb file =
-    if bytes_eq verb (codes "check") && is_operand file then Some (check file)
-    else if bytes_eq verb (codes "eval") && is_operand file then Some (eval file)
-    else if bytes_eq verb (codes "run") && is_operand file then Some (run file)
-    else None
-
--- the command that the words give, or none
-abbrev pub command_of : List (List ℕ) → Option Command
-command_of [] = None
-command_of (verb ∷ []) = None
-command_of (verb ∷ file ∷ []) = with_file verb file
-command_of (verb ∷ file ∷ more ∷ rest) = None
+-- ---- files
 
 -- the command loads the file of this name
 abbrev pub IsLoaded : Command → List ℕ → Type 0
 IsLoaded (check file) name = name ≡ file
 IsLoaded (eval file) name = name ≡ file
-IsLoaded (run file) name = name ≡ file
+IsLoaded (run file flags) name = (name ≡ file) ⊎ (flags.script ≡ Some name)
+IsLoaded (sim file events log) name = (name ≡ file) ⊎ (name ≡ events)
+IsLoaded (build file into) name = name ≡ file
+IsLoaded (exec file flags) name = (name ≡ file) ⊎ (flags.script ≡ Some name)
+IsLoaded (gen number size) name = ⊥
+IsLoaded (selfrun number size) name = ⊥
 
 -- the command writes the file of this name
 abbrev pub IsWritten : Command → List ℕ → Type 0
 IsWritten (check file) name = ⊥
 IsWritten (eval file) name = ⊥
-IsWritten (run file) name = ⊥
+IsWritten (run file flags) name = flags.log ≡ Some name
+IsWritten (sim file events log) name = log ≡ Some name
+IsWritten (build file into) name = name ≡ into
+IsWritten (exec file flags) name = flags.log ≡ Some name
+IsWritten (gen number size) name = ⊥
+IsWritten (selfrun number size) name = ⊥
 
--- the endings of a command that only loads the program in a file, whatever it holds
-abbrev pub CanEndPlain : List ℕ → Ending → Type 0
-CanEndPlain file done = Unit {0}
-CanEndPlain file no_command = ⊥
-CanEndPlain file (cannot_use name) = name ≡ file
-CanEndPlain file (refused at why) = Unit {0}
-CanEndPlain file (fault ending) = ⊥
-CanEndPlain file no_memory = Unit {0}
-CanEndPlain file output_failed = Unit {0}
-CanEndPlain file (too_long name) = name ≡ file
+-- ---- endings
 
--- the endings of a command that runs it
-abbrev pub CanEndRun : List ℕ → Ending → Type 0
-CanEndRun file (fault ending) = base.status_of ending ≡ 5
-CanEndRun file ending = CanEndPlain file ending
+-- the command loads a program's text
+abbrev pub LoadsProgram : Command → Type 0
+LoadsProgram (check file) = Unit {0}
+LoadsProgram (eval file) = Unit {0}
+LoadsProgram (run file flags) = Unit {0}
+LoadsProgram (sim file events log) = Unit {0}
+LoadsProgram (build file into) = Unit {0}
+LoadsProgram (exec file flags) = ⊥
+LoadsProgram (gen number size) = ⊥
+LoadsProgram (selfrun number size) = ⊥
+
+-- the command loads a module
+abbrev pub LoadsModule : Command → Type 0
+LoadsModule (check file) = ⊥
+LoadsModule (eval file) = ⊥
+LoadsModule (run file flags) = ⊥
+LoadsModule (sim file events log) = ⊥
+LoadsModule (build file into) = ⊥
+LoadsModule (exec file flags) = Unit {0}
+LoadsModule (gen number size) = ⊥
+LoadsModule (selfrun number size) = ⊥
+
+-- the command loads a script
+abbrev pub LoadsScript : Command → Type 0
+LoadsScript (check file) = ⊥
+LoadsScript (eval file) = ⊥
+LoadsScript (run file flags) = (name : List ℕ) × (flags.script ≡ Some name)
+LoadsScript (sim file events log) = ⊥
+LoadsScript (build file into) = ⊥
+LoadsScript (exec file flags) = (name : List ℕ) × (flags.script ≡ Some name)
+LoadsScript (gen number size) = ⊥
+LoadsScript (selfrun number size) = ⊥
+
+-- the command loads a list of events
+abbrev pub LoadsEvents : Command → Type 0
+LoadsEvents (check file) = ⊥
+LoadsEvents (eval file) = ⊥
+LoadsEvents (run file flags) = ⊥
+LoadsEvents (sim file events log) = Unit {0}
+LoadsEvents (build file into) = ⊥
+LoadsEvents (exec file flags) = ⊥
+LoadsEvents (gen number size) = ⊥
+LoadsEvents (selfrun number size) = ⊥
+
+-- the command runs a program
+abbrev pub RunsProgram : Command → Type 0
+RunsProgram (check file) = ⊥
+RunsProgram (eval file) = Unit {0}
+RunsProgram (run file flags) = Unit {0}
+RunsProgram (sim file events log) = Unit {0}
+RunsProgram (build file into) = ⊥
+RunsProgram (exec file flags) = Unit {0}
+RunsProgram (gen number size) = ⊥
+RunsProgram (selfrun number size) = Unit {0}
+
+-- the command writes to out
+abbrev pub WritesOut : Command → Type 0
+WritesOut (check file) = Unit {0}
+WritesOut (eval file) = Unit {0}
+WritesOut (run file flags) = Unit {0}
+WritesOut (sim file events log) = Unit {0}
+WritesOut (build file into) = ⊥
+WritesOut (exec file flags) = Unit {0}
+WritesOut (gen number size) = Unit {0}
+WritesOut (selfrun number size) = Unit {0}
 
 -- the endings that the command can have, whatever the files hold
 abbrev pub CanEnd : Command → Ending → Type 0
-CanEnd (check file) ending = CanEndPlain file ending
-CanEnd (eval file) ending = CanEndRun file ending
-CanEnd (run file) ending = CanEndRun file ending
+CanEnd command done = Unit {0}
+CanEnd command no_command = ⊥
+CanEnd command (cannot_load name) = IsLoaded command name
+CanEnd command (cannot_write name) = IsWritten command name
+CanEnd command (refused at why) = LoadsProgram command
+CanEnd command (fault ending) = RunsProgram command × (base.status_of ending ≡ 5)
+CanEnd command no_memory = Unit {0}
+CanEnd command output_failed = WritesOut command
+CanEnd command script_refused = LoadsScript command
+CanEnd command (events_refused number) = LoadsEvents command
+CanEnd command (too_long name) = IsLoaded command name
+CanEnd command module_refused = LoadsModule command
 
--- What a command comes to where no call of the outside fails and memory is there: how it ends, what out gets,
--- and the files that it reaches up to its end, in order.
-pub record Outcome : Type 0 where
-  pub ending : Ending
-  pub text : List ℕ
-  pub reached : List (List ℕ)
+-- ---- what files are read as
 
--- what a command makes of a program: how it ends, and what out gets
-pub record Work : Type 0 where
-  pub ending : Ending
-  pub text : List ℕ
+-- the bytes are turned away as a program's text, at a place of it
+abbrev pub IsRefusedText : List ℕ → Ending → Type 0
+IsRefusedText bytes ending = (at : ℕ) × (why : Refusal) × IsRead bytes (reading.refused at why) × (ending ≡ refused at why)
 
--- the program of this file is refused or cannot be had: out gets nothing
-abbrev pub refusal : List ℕ → Ending → Outcome
-refusal file ending = record { ending = ending; text = []; reached = file ∷ [] }
+-- what a command comes to that loads a program and goes on with it
+abbrev pub WithProgram : Sight → List ℕ → (Program → Outcome → Type 0) → Outcome → Type 0
+WithProgram sight file Next outcome = Loads file text_limit (λ bytes p. IsRead bytes (reading.accepted p)) IsRefusedText Next (sight.files file) outcome
 
--- the program of this file is accepted, and this was made of it
-abbrev pub worked : List ℕ → Work → Outcome
-worked file work = record { ending = work.ending; text = work.text; reached = file ∷ [] }
+-- the longest module, in bytes
+abbrev pub module_limit : ℕ
+module_limit = 16777216
 
--- What a command comes to that loads the program of a file, by what the file holds and what the command makes of an accepted program.
-pub data Loads (file : List ℕ) (work : Program → Work) : Option (List ℕ) → Outcome → Type 0 where
-  -- there is no such file
-  missing : Loads file work None (refusal file (cannot_use file))
-  -- it is longer than the longest program
-  long : (text : List ℕ) → text_limit < length text → Loads file work (Some text) (refusal file (too_long file))
-  -- its text is refused
-  not_accepted : (text : List ℕ) (at : ℕ) (why : Refusal) → length text ≤ text_limit → IsRead text (reading.refused at why) → Loads file work (Some text) (refusal file (refused at why))
-  -- its text is an accepted program
-  loaded : (text : List ℕ) (p : Program) → length text ≤ text_limit → IsRead text (reading.accepted p) → Loads file work (Some text) (worked file (work p))
+-- the bytes are the one spelling of a verified module
+abbrev pub IsModule : List ℕ → Module → Type 0
+IsModule bytes m = HasSpelling m × IsVerified m × (bytes ≡ spelling m)
+
+-- the bytes are no verified module's
+abbrev pub IsNoModule : List ℕ → Ending → Type 0
+IsNoModule bytes ending = ((m : Module) → IsModule bytes m → ⊥) × (ending ≡ module_refused)
+
+-- what a command comes to that loads a module and goes on with it
+abbrev pub WithModule : Sight → List ℕ → (Module → Outcome → Type 0) → Outcome → Type 0
+WithModule sight file Next outcome = Loads file module_limit IsModule IsNoModule Next (sight.files file) outcome
+
+-- what a command comes to that loads a script, where one is named, and goes on
+abbrev pub WithScript : Sight → Option (List ℕ) → (Outcome → Type 0) → Outcome → Type 0
+WithScript sight None Next outcome = Next outcome
+WithScript sight (Some file) Next outcome = NoRowYet
+
+-- the file holds the text of this accepted program
+abbrev pub HoldsProgram : Sight → List ℕ → Program → Type 0
+HoldsProgram sight file p = (bytes : List ℕ) × (sight.files file ≡ Some bytes) × (length bytes ≤ text_limit) × IsRead bytes (reading.accepted p)
+
+-- the file holds this verified module
+abbrev pub HoldsModule : Sight → List ℕ → Module → Type 0
+HoldsModule sight file m = (bytes : List ℕ) × (sight.files file ≡ Some bytes) × (length bytes ≤ module_limit) × IsModule bytes m
+
+-- the rows of the script, where one is named; with no script there is none
+abbrev pub HoldsScript : Sight → Option (List ℕ) → List Row → Type 0
+HoldsScript sight None rows = rows ≡ []
+HoldsScript sight (Some file) rows = NoRowYet
+
+-- ---- work
 
 -- how a call ends with the run of a program
 abbrev pub ended : RunEnd → Ending
@@ -115,33 +185,109 @@ ended (Done steps) = done
 ended (MainFault after cause) = fault (MainFault after cause)
 ended (StepFailed step failure) = fault (StepFailed step failure)
 
--- the units of fuel of a run
-abbrev pub fuel : ℕ
-fuel = 1000000
-
--- the run of a program: it ends as the program's meaning does, and out gets the text of the meaning
-abbrev pub run_of : Program → Work
-run_of p = record { ending = ended (meaning p fuel).ending; text = base.text_of false (meaning p fuel).events }
+-- a run: it ends as the meaning does, and out gets the text of the meaning, with the words that each step changed where they are asked for
+abbrev pub run_of : Bool → Meaning → Work
+run_of steps means = record { ending = ended means.ending; text = base.text_of steps means.events }
 
 -- the check of a program: out gets its canonical text
 abbrev pub check_of : Program → Work
 check_of p = record { ending = done; text = canonical p }
 
--- what a command comes to on files that hold this
-abbrev pub ComesTo : Command → Contents → Outcome → Type 0
-ComesTo (check file) files outcome = Loads file check_of (files file) outcome
-ComesTo (eval file) files outcome = Loads file run_of (files file) outcome
-ComesTo (run file) files outcome = Loads file run_of (files file) outcome
+-- the writing of a module: out gets nothing
+abbrev pub build_of : Work
+build_of = record { ending = done; text = [] }
 
--- what err may get behind the line of the ending
-abbrev pub MayReport : Command → Ending → List ℕ → Type 0
-MayReport (check file) ending report = report ≡ []
-MayReport (eval file) ending report = report ≡ []
-MayReport (run file) ending report = report ≡ []
+-- the units of fuel of `eval`, `sim` and `selfrun`
+abbrev pub usual_fuel : ℕ
+usual_fuel = 1000000
 
--- On files that hold this, a run may give this text for the file that the command writes beside this report.
--- It is a relation, since the text of a log is no function of the files and the words.
-abbrev pub MayTell : Command → Contents → (written report : List ℕ) → Type 0
-MayTell (check file) files written report = written ≡ []
-MayTell (eval file) files written report = written ≡ []
-MayTell (run file) files written report = written ≡ []
+-- what a command comes to on what is seen of the outside
+abbrev pub ComesTo : Command → Sight → Outcome → Type 0
+ComesTo (check file) sight outcome = WithProgram sight file (λ p. Does (check_of p)) outcome
+ComesTo (eval file) sight outcome = WithProgram sight file (λ p. Does (run_of false (meaning p usual_fuel))) outcome
+ComesTo (run file flags) sight outcome =
+    WithProgram sight file (λ p. WithScript sight flags.script (Creates flags.log (Does (run_of flags.steps (meaning p flags.fuel))))) outcome
+ComesTo (sim file events log) sight outcome = NoRowYet
+ComesTo (build file into) sight outcome = WithProgram sight file (λ p. Creates (Some into) (Does build_of)) outcome
+ComesTo (exec file flags) sight outcome =
+    WithModule sight file (λ m. WithScript sight flags.script (Creates flags.log (Does (run_of flags.steps (machine_meaning m flags.fuel))))) outcome
+ComesTo (gen number size) sight outcome = NoRowYet
+ComesTo (selfrun number size) sight outcome = NoRowYet
+
+-- ---- logs, modules and reports
+
+-- the steps that a run of the command opens, faulted one included, each with a legal and complete history
+abbrev pub HasTrace : Command → Sight → Trace → Type 0
+HasTrace (check file) sight trace = trace ≡ []
+HasTrace (eval file) sight trace = trace ≡ []
+HasTrace (run file flags) sight trace = (p : Program) × HoldsProgram sight file p × IsTraceOf (steps_of (main p flags.fuel)) trace
+HasTrace (sim file events log) sight trace = NoRowYet
+HasTrace (build file into) sight trace = trace ≡ []
+HasTrace (exec file flags) sight trace = (m : Module) × HoldsModule sight file m × IsTraceOf (steps_of (machine_main m flags.fuel)) trace
+HasTrace (gen number size) sight trace = trace ≡ []
+HasTrace (selfrun number size) sight trace = NoRowYet
+
+-- the text of a log, where one is named: that of a trace of the run
+abbrev pub WritesLog : Option (List ℕ) → (Trace → Type 0) → Trace → List ℕ → Type 0
+WritesLog None IsTrace trace text = text ≡ []
+WritesLog (Some file) IsTrace trace text = IsTrace trace × (text ≡ log_text trace)
+
+-- the one spelling of a verified module that means what the program means, with each amount of fuel
+pub record IsBuiltOf (p : Program) (text : List ℕ) : Type 0 where
+  pub built : Module
+  pub spelled : IsModule text built
+  pub means : (fuel : ℕ) → machine_meaning built fuel ≡ meaning p fuel
+
+-- What the command may write to its file, on what is seen of the outside, in a run with this trace. It is a relation, since threads and compilers choose.
+abbrev pub Writes : Command → Sight → Trace → List ℕ → Type 0
+Writes (check file) sight trace text = text ≡ []
+Writes (eval file) sight trace text = text ≡ []
+Writes (run file flags) sight trace text = WritesLog flags.log (HasTrace (run file flags) sight) trace text
+Writes (sim file events log) sight trace text = WritesLog log (HasTrace (sim file events log) sight) trace text
+Writes (build file into) sight trace text = (p : Program) × HoldsProgram sight file p × IsBuiltOf p text
+Writes (exec file flags) sight trace text = WritesLog flags.log (HasTrace (exec file flags) sight) trace text
+Writes (gen number size) sight trace text = text ≡ []
+Writes (selfrun number size) sight trace text = text ≡ []
+
+-- a report has one line for each worker and the caller's
+abbrev pub MayReportOf : Bool → (workers : ℕ) → List ℕ → Type 0
+MayReportOf false workers report = report ≡ []
+MayReportOf true workers report = (tallies : Tallies) × AreTalliesOf workers tallies × (report ≡ report_text tallies)
+
+-- what err may get behind the line of an ending where the command did its work, whatever the files hold
+abbrev pub MayReport : Command → List ℕ → Type 0
+MayReport (check file) report = report ≡ []
+MayReport (eval file) report = report ≡ []
+MayReport (run file flags) report = MayReportOf flags.report flags.workers report
+MayReport (sim file events log) report = report ≡ []
+MayReport (build file into) report = report ≡ []
+MayReport (exec file flags) report = MayReportOf flags.report flags.workers report
+MayReport (gen number size) report = report ≡ []
+MayReport (selfrun number size) report = report ≡ []
+
+-- the report of a run with this trace: its tallies follow the script and agree with the histories
+pub record IsReport (flags : Flags) (sight : Sight) (IsTrace : Trace → Type 0) (trace : Trace) (report : List ℕ) : Type 0 where
+  pub rows : List Row
+  pub script : HoldsScript sight flags.script rows
+  pub tallies : Tallies
+  pub workers : AreTalliesOf flags.workers tallies
+  pub follow : FollowScript rows tallies
+  pub traced : IsTrace trace
+  pub agree : Agree trace tallies
+  pub text : report ≡ report_text tallies
+
+-- the report, where one is asked for
+abbrev pub ReportsOf : Bool → (report : List ℕ) → Type 0 → Type 0
+ReportsOf false report Reported = report ≡ []
+ReportsOf true report Reported = Reported
+
+-- what the command reports, on what is seen of the outside, in a run with this trace
+abbrev pub Reports : Command → Sight → Trace → List ℕ → Type 0
+Reports (check file) sight trace report = report ≡ []
+Reports (eval file) sight trace report = report ≡ []
+Reports (run file flags) sight trace report = ReportsOf flags.report report (IsReport flags sight (HasTrace (run file flags) sight) trace report)
+Reports (sim file events log) sight trace report = report ≡ []
+Reports (build file into) sight trace report = report ≡ []
+Reports (exec file flags) sight trace report = ReportsOf flags.report report (IsReport flags sight (HasTrace (exec file flags) sight) trace report)
+Reports (gen number size) sight trace report = report ≡ []
+Reports (selfrun number size) sight trace report = report ≡ []

@@ -1,12 +1,15 @@
--- What the top call promises. No sentence here names a command: each speaks by the tables of commands and of endings.
-use Rattle.std.specs.Prelude.{◌≡◌, ◌≢◌, ◌⊎◌, ◌≤◌, ℕ, None, Some, List, [], ◌++◌, Contains}
+-- What the top call promises. No sentence here names a command, a status but 2 and 6, or a part of the outside: each speaks by the tables of commands and of endings.
+use Rattle.std.specs.Prelude.{◌≡◌, ◌⊎◌, ◌≤◌, ℕ, None, Some, List, [], ◌++◌, Contains}
 use Rattle.std.specs.declared.option.Option.{Option}
 use Rattle.std.specs.Io.{StartsWith}
 use Rattle.std.specs.Io.KnownBytes.{Appends}
 use Rattle.cal_base.specs.Causes.{Rose, IsQuiet}
 use Rattle.cal_base.specs.Contents.{Contents, Told, SameFiles, AppendsPrefix}
-use Rattle.calypso_cli.specs.Endings.{Ending, no_command, cannot_use, no_memory, output_failed, status_of, err_text}
-use Rattle.calypso_cli.specs.Commands.{Command, command_of, IsLoaded, IsWritten, CanEnd, Outcome, ComesTo, MayReport, MayTell}
+use Rattle.command_words.specs.Commands.{Command}
+use Rattle.calypso_cli.specs.Endings.{Part, files, out, worked, turned_away, failed, Ending, no_command, no_memory, output_failed, kind_of, status_of, err_text, IsBeforeWork}
+use Rattle.calypso_cli.specs.Outcomes.{Sight, Reach, cannot, Outcome}
+use Rattle.calypso_cli.specs.Traces.{Trace}
+use Rattle.calypso_cli.specs.Commands.{IsLoaded, IsWritten, WritesOut, CanEnd, ComesTo, Writes, MayReport, Reports}
 
 -- what the files and out tell at a moment, and their counts of faults
 pub record Objects : Type 0 where
@@ -17,7 +20,12 @@ pub record Objects : Type 0 where
 
 -- the same by its four parts
 abbrev pub objects_of : Option Contents → Option (List ℕ) → ℕ → ℕ → Objects
-objects_of files out file_faults out_faults = record { files = files; out = out; file_faults = file_faults; out_faults = out_faults }
+objects_of told written file_faults out_faults = record { files = told; out = written; file_faults = file_faults; out_faults = out_faults }
+
+-- the count of faults of a part
+abbrev pub faults_of : Part → Objects → ℕ
+faults_of files objects = objects.file_faults
+faults_of out objects = objects.out_faults
 
 -- what the outside tells at a moment, and its counts of faults
 pub record Outside : Type 0 where
@@ -27,99 +35,108 @@ pub record Outside : Type 0 where
 
 -- no count of faults falls
 pub record CountsStay (before after : Outside) : Type 0 where
-  pub file_faults : before.objects.file_faults ≤ after.objects.file_faults
-  pub out_faults : before.objects.out_faults ≤ after.objects.out_faults
-  pub err_faults : before.err_faults ≤ after.err_faults
+  pub parts : (part : Part) → faults_of part before.objects ≤ faults_of part after.objects
+  pub err : before.err_faults ≤ after.err_faults
 
--- the command did its work to the end: it is done, or the program's meaning ended in a fault
-abbrev pub RanToEnd : Ending → Type 0
-RanToEnd ending = (status_of ending ≡ 0) ⊎ (status_of ending ≡ 5)
+-- the command did its work to the end: it is done, or what it ran ended in a fault
+abbrev pub Worked : Ending → Type 0
+Worked ending = kind_of ending ≡ worked
 
--- something that the call was given was refused
-abbrev pub WasRefused : Ending → Type 0
-WasRefused ending = (status_of ending ≡ 2) ⊎ (status_of ending ≡ 4) ⊎ (status_of ending ≡ 8) ⊎ (status_of ending ≡ 9) ⊎ (status_of ending ≡ 10)
+-- something that the call was given was turned away
+abbrev pub WasTurnedAway : Ending → Type 0
+WasTurnedAway ending = kind_of ending ≡ turned_away
 
--- a file that the command loads, and does not write, cannot be used
-abbrev pub LoadFailed : Command → Ending → Type 0
-LoadFailed command ending = (name : List ℕ) × (ending ≡ cannot_use name) × IsLoaded command name × (IsWritten command name → ⊥)
+-- the call ends by itself: neither by want of memory nor by a fault of the outside
+abbrev pub EndsByItself : Ending → Type 0
+EndsByItself ending = Worked ending ⊎ WasTurnedAway ending
 
 -- How a call may end where the command comes to this outcome: as the outcome says, or, in its place,
 -- by want of memory, at a file that was reached, or at out where text was to be written.
 pub data MayEnd (outcome : Outcome) : Ending → Type 0 where
   as_it_comes : (ending : Ending) → ending ≡ outcome.ending → MayEnd outcome ending
   for_memory : MayEnd outcome no_memory
-  at_a_file : (name : List ℕ) → Contains outcome.reached name → MayEnd outcome (cannot_use name)
-  at_out : RanToEnd outcome.ending → MayEnd outcome output_failed
+  at_a_file : (reach : Reach) → Contains outcome.reached reach → MayEnd outcome (cannot reach)
+  at_out : Worked outcome.ending → MayEnd outcome output_failed
 
 -- the text was written, or a front of it where the count of faults rose
 abbrev pub Gets : Option (List ℕ) → Option (List ℕ) → ℕ → ℕ → List ℕ → Type 0
 Gets old new before now text = Appends old new text ⊎ (Rose before now × AppendsPrefix old new text)
 
--- a file that the command does not write is as before, and every file is where something was refused
+-- a file that the command does not write is as before, and every file is where something was turned away
 pub record Touches (command : Command) (ending : Ending) (old new : Contents) : Type 0 where
   pub others : (name : List ℕ) → (IsWritten command name → ⊥) → new name ≡ old name
-  pub refused : WasRefused ending → SameFiles old new
+  pub turned_away : WasTurnedAway ending → SameFiles old new
 
 -- each file that the command writes holds this text
 abbrev pub HoldsWritten : Command → Option Contents → List ℕ → Type 0
 HoldsWritten command None text = Unit {0}
-HoldsWritten command (Some files) text = (name : List ℕ) → IsWritten command name → files name ≡ Some text
+HoldsWritten command (Some contents) text = (name : List ℕ) → IsWritten command name → contents name ≡ Some text
 
--- the name holds what it held, or a front of what the command may write to it
-abbrev pub HoldsFront : Command → Contents → List ℕ → Option (List ℕ) → Type 0
-HoldsFront command contents name held =
-    (held ≡ contents name) ⊎ ((text report front : List ℕ) × MayTell command contents text report × StartsWith text front × (held ≡ Some front))
+-- the name holds what it held, or nothing, or a front of what the command may write to it
+pub data HoldsFront (command : Command) (sight : Sight) (name : List ℕ) : Option (List ℕ) → Type 0 where
+  as_before : HoldsFront command sight name (sight.files name)
+  nothing : HoldsFront command sight name (Some [])
+  front_of : (trace : Trace) (text front : List ℕ) → Writes command sight trace text → StartsWith text front → HoldsFront command sight name (Some front)
 
--- each file that the command writes holds what it held, or a front of what the command may write to it
-abbrev pub HoldsFronts : Command → Contents → Option Contents → Type 0
-HoldsFronts command contents None = Unit {0}
-HoldsFronts command contents (Some files) = (name : List ℕ) → IsWritten command name → HoldsFront command contents name (files name)
+-- so does each file that the command writes
+abbrev pub HoldsFronts : Command → Sight → Option Contents → Type 0
+HoldsFronts command sight None = Unit {0}
+HoldsFronts command sight (Some contents) = (name : List ℕ) → IsWritten command name → HoldsFront command sight name (contents name)
 
--- The call ends by itself: neither by want of memory nor by a fault of the files or of out.
-abbrev pub EndsByItself : Ending → Type 0
-EndsByItself ending = (status_of ending ≢ 3) × (status_of ending ≢ 6) × (status_of ending ≢ 7)
-
--- Where the command comes to this outcome: how the call ends and what out gets follow from it.
+-- where the command comes to this outcome: how the call ends and what out gets follow from it
 pub record RunsAs (outcome : Outcome) (before after : Objects) (ending : Ending) : Type 0 where
   pub ends : MayEnd outcome ending
   -- where the command did its work to the end out got exactly the text, and else a front of it
-  pub text : RanToEnd ending → Appends before.out after.out outcome.text
+  pub text : Worked ending → Appends before.out after.out outcome.text
   pub front : AppendsPrefix before.out after.out outcome.text
-  -- where no count of faults of the files or of out rose, the call ends as the outcome says, or by want of memory
-  pub complete : IsQuiet before.file_faults after.file_faults → IsQuiet before.out_faults after.out_faults
-      → (ending ≡ no_memory) ⊎ (ending ≡ outcome.ending)
+  -- where no count of faults rose, the call ends as the outcome says, or by want of memory
+  pub complete : ((part : Part) → IsQuiet (faults_of part before) (faults_of part after)) → (ending ≡ no_memory) ⊎ (ending ≡ outcome.ending)
 
--- on these files the command comes to an outcome where it did its work to the end
-abbrev pub CanRun : Command → Contents → Type 0
-CanRun command contents = (outcome : Outcome) × ComesTo command contents outcome × RanToEnd outcome.ending
+-- on what is seen of the outside the command comes to an outcome where it did its work to the end
+abbrev pub CanWork : Command → Sight → Type 0
+CanWork command sight = (outcome : Outcome) × ComesTo command sight outcome × Worked outcome.ending
 
--- On files that told what they held.
-pub record OnFiles (command : Command) (contents : Contents) (before after : Objects) (ending : Ending) (report : List ℕ) : Type 0 where
+-- where the command did its work, the file that it writes holds the whole text and err got the report, both of one run
+pub record Tells (command : Command) (sight : Sight) (after : Objects) (report : List ℕ) : Type 0 where
+  pub trace : Trace
+  pub text : List ℕ
+  pub writes : Writes command sight trace text
+  pub reports : Reports command sight trace report
+  pub holds : HoldsWritten command after.files text
+
+-- what the command comes to on what is seen of the outside, and what the call made of it
+pub record OnSight (command : Command) (sight : Sight) (before after : Objects) (ending : Ending) (report : List ℕ) : Type 0 where
   -- a call that ends by itself ends as the command comes to
-  pub comes : EndsByItself ending → (outcome : Outcome) × ComesTo command contents outcome × (ending ≡ outcome.ending)
+  pub comes : EndsByItself ending → (outcome : Outcome) × ComesTo command sight outcome × (ending ≡ outcome.ending)
   -- out fails, or gets anything, only where the command comes to an outcome where it did its work to the end
-  pub fails : status_of ending ≡ 7 → CanRun command contents
-  pub wrote : Appends before.out after.out [] ⊎ CanRun command contents
+  pub fails : kind_of ending ≡ failed out → CanWork command sight
+  pub wrote : Appends before.out after.out [] ⊎ CanWork command sight
   -- and whatever the command comes to, the call runs so
-  pub runs : (outcome : Outcome) → ComesTo command contents outcome → RunsAs outcome before after ending
-  -- where the command did its work the file that it writes holds the text that goes with the report, and else its old bytes or a front of some such text
-  pub written : RanToEnd ending → (text : List ℕ) × MayTell command contents text report × HoldsWritten command after.files text
-  pub fronts : HoldsFronts command contents after.files
+  pub runs : (outcome : Outcome) → ComesTo command sight outcome → RunsAs outcome before after ending
+  -- the file that the command writes holds the text that goes with the report, and else what it held, nothing, or a front of some such text
+  pub tells : Worked ending → Tells command sight after report
+  pub fronts : HoldsFronts command sight after.files
 
--- What a command does to the files and out, in a call that ends so.
+-- this is seen of the outside by the command: what the files tell, or anything where they tell nothing and the command loads no file
+abbrev pub Sees : Command → Option Contents → Sight → Type 0
+Sees command told sight = (told ≡ Some sight.files) ⊎ ((told ≡ None) × ((name : List ℕ) → IsLoaded command name → ⊥))
+
+-- what a command does to the files and out, in a call that ends so
 pub record Works (command : Command) (before after : Objects) (ending : Ending) (report : List ℕ) : Type 0 where
   -- the ending is one that the command can have; a file that it names is one of the command's
   pub can_end : CanEnd command ending
-  -- 3 only where the files' count of faults rose in this call, and 7 only where out's did
-  pub file_fault : status_of ending ≡ 3 → Rose before.file_faults after.file_faults
-  pub out_fault : status_of ending ≡ 7 → Rose before.out_faults after.out_faults
-  pub reports : MayReport command ending report
-  -- out got nothing where something was refused or not loaded, whether or not the files tell what they hold
-  pub silent : WasRefused ending ⊎ LoadFailed command ending → Appends before.out after.out []
+  -- a part of the outside failed only where its count of faults rose in this call
+  pub causes : (part : Part) → kind_of ending ≡ failed part → Rose (faults_of part before) (faults_of part after)
+  -- a report comes only where the command did its work, and is one that the command can have
+  pub reports : Worked ending → MayReport command report
+  pub silent : (Worked ending → ⊥) → report ≡ []
+  -- whether or not the files tell what they hold: out got nothing where something was turned away or not loaded, and where the command writes nothing to it
+  pub unwritten : IsBeforeWork ending → Appends before.out after.out []
+  pub out_kept : (WritesOut command → ⊥) → Appends before.out after.out []
   pub files : Told before.files after.files (Touches command ending)
-  pub told : (contents : Contents) → before.files ≡ Some contents → OnFiles command contents before after ending report
+  pub told : (sight : Sight) → Sees command before.files sight → OnSight command sight before after ending report
 
--- The promise of a call that carries out a command and answers this status: one ending, to which everything is tied.
+-- the promise of a call that carries out a command and answers this status: one ending, to which everything is tied
 pub record DoesCommand (command : Command) (before after : Outside) (status : ℕ) : Type 0 where
   pub ending : Ending
   pub report : List ℕ
@@ -128,7 +145,7 @@ pub record DoesCommand (command : Command) (before after : Outside) (status : �
   pub line : Gets before.err after.err before.err_faults after.err_faults (err_text ending ++ report)
   pub works : Works command before.objects after.objects ending report
 
--- Nothing was done but to tell why: the words give no command, or memory was wanted to read them.
+-- nothing was done but to tell why: there is no command, or memory was wanted to read the words
 pub record DoesNothing (before after : Outside) (status : ℕ) : Type 0 where
   pub ending : Ending
   pub why : (ending ≡ no_command) ⊎ (ending ≡ no_memory)
@@ -137,13 +154,13 @@ pub record DoesNothing (before after : Outside) (status : ℕ) : Type 0 where
   pub out : Appends before.objects.out after.objects.out []
   pub files : Told before.objects.files after.objects.files SameFiles
 
--- The promise of a call with these words that answers this status.
-pub record KeepsPromise (words : List (List ℕ)) (before after : Outside) (status : ℕ) : Type 0 where
-  -- 2 exactly where the words give no command, want of memory aside
-  pub only_wrong_words : status ≡ 2 → command_of words ≡ None
-  pub wrong_words : command_of words ≡ None → (status ≡ 2) ⊎ (status ≡ 6)
-  pub nothing : command_of words ≡ None → DoesNothing before after status
-  pub command : (command : Command) → command_of words ≡ Some command → DoesCommand command before after status
+-- the promise of a call that was given this command, or none, and answers this status
+pub record KeepsPromise (given : Option Command) (before after : Outside) (status : ℕ) : Type 0 where
+  -- 2 exactly where there is no command, want of memory aside
+  pub only_no_command : status ≡ 2 → given ≡ None
+  pub no_command : given ≡ None → (status ≡ 2) ⊎ (status ≡ 6)
+  pub nothing : given ≡ None → DoesNothing before after status
+  pub command : (command : Command) → given ≡ Some command → DoesCommand command before after status
   pub counts : CountsStay before after
 
 -- the call may load each file that the command loads, and write each file that it writes
@@ -151,6 +168,6 @@ pub record MayUse (may_load may_write : List ℕ → Type 0) (command : Command)
   pub load : (name : List ℕ) → IsLoaded command name → may_load name
   pub write : (name : List ℕ) → IsWritten command name → may_write name
 
--- the same of the command that the words give
-abbrev pub MayDo : (List ℕ → Type 0) → (List ℕ → Type 0) → List (List ℕ) → Type 0
-MayDo may_load may_write words = (command : Command) → command_of words ≡ Some command → MayUse may_load may_write command
+-- the same of the command that was given, if any
+abbrev pub MayDo : (List ℕ → Type 0) → (List ℕ → Type 0) → Option Command → Type 0
+MayDo may_load may_write given = (command : Command) → given ≡ Some command → MayUse may_load may_write command

@@ -1,18 +1,17 @@
 -- What the steps below the top call promise.
-use Rattle.std.specs.Prelude.{◌≡◌, ◌≤◌, ◌<◌, ℕ, List, length, IfSome, IsSomeAnd}
+use Rattle.std.specs.Prelude.{◌≤◌, ◌<◌, ℕ, List, length, IfSome, IsSomeAnd}
 use Rattle.std.specs.declared.option.Option.{Option}
 use Rattle.std.specs.Io.KnownBytes.{Appends}
 use Rattle.cal_base.specs.Causes.{Rose}
 use Rattle.cal_base.specs.Contents.{Contents, AppendsPrefix}
-use Rattle.csl_tree.specs.declared.program.Program.{Program}
 use Rattle.csl_grammar.specs.Texts.{text_limit}
 use Rattle.csl_reader.specs.declared.refusal.Refusal.{Refusal}
 use Rattle.csl_reader.specs.Readings as reading
 use Rattle.csl_reader.specs.Readings.{IsRead}
-use Rattle.calypso_cli.specs.Endings.{Ending, cannot_use, refused, no_memory, output_failed, too_long}
-use Rattle.calypso_cli.specs.Commands.{Work}
+use Rattle.calypso_cli.specs.Endings.{Ending, cannot_load, refused, no_memory, output_failed, too_long}
+use Rattle.calypso_cli.specs.Outcomes.{Work}
 
--- where the files tell it, the file holds a text of which this is true
+-- where the files tell it, the file holds bytes of which this is true
 abbrev pub Holds : Option Contents → List ℕ → (List ℕ → Type 0) → Type 0
 Holds told file Fact = IfSome told (λ contents. IsSomeAnd (contents file) Fact)
 
@@ -23,7 +22,7 @@ ReadsAs reading text = (length text ≤ text_limit) × IsRead text reading
 -- why the load of a program ends the call
 pub data StopsLoad (told : Option Contents) (file : List ℕ) (before after : ℕ) : Ending → Type 0 where
   no_room : StopsLoad told file before after no_memory
-  not_usable : Rose before after → StopsLoad told file before after (cannot_use file)
+  not_usable : Rose before after → StopsLoad told file before after (cannot_load file)
   long : Holds told file (λ text. text_limit < length text) → StopsLoad told file before after (too_long file)
   not_accepted : (at : ℕ) (why : Refusal) → Holds told file (ReadsAs (reading.refused at why)) → StopsLoad told file before after (refused at why)
 

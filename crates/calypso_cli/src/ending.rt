@@ -1,12 +1,13 @@
 //! How a call ends: its status and the line that tells of it.
 
-ghost use Rattle.std.specs.Prelude.{◌≡◌, ◌++◌, codes, OnOk, OnErr};
+ghost use Rattle.std.specs.Prelude.{◌≡◌, ◌≤◌, ◌++◌, codes, OnOk, OnErr};
 ghost use Rattle.std.specs.Io.KnownBytes.{Appends};
 ghost use Rattle.cal_base.specs.Causes.{HasCause};
 ghost use Rattle.cal_base.specs.Contents.{AppendsPrefix};
 ghost use Rattle.calypso_cli.specs.Commands.{ended};
 ghost use Rattle.cal_base.specs.Text.{line};
-ghost use Rattle.calypso_cli.specs.Endings.{refused, status_of, err_text};
+ghost use Rattle.calypso_cli.specs.Endings.{refused, events_refused, status_of, err_text};
+ghost use Rattle.calypso_cli.specs.Promise.{Gets};
 ghost use Rattle.calypso_cli.specs.Seen.{ending_seen};
 
 use crate::lines::{write_fault, write_pieces};
@@ -21,8 +22,10 @@ pub enum Ending<'a> {
     Done,
     /// The words give no command.
     NoCommand,
-    /// The file of this name could not be loaded, made or appended to.
-    CannotUse(&'a str),
+    /// The file of this name could not be loaded.
+    CannotLoad(&'a str),
+    /// The file of this name could not be created or appended to.
+    CannotWrite(&'a str),
     /// The program's text is refused, by what stands at this place of it.
     Refused { at: u32, why: Refusal },
     /// The run ends in this fault, which is never `Done`.
@@ -31,8 +34,14 @@ pub enum Ending<'a> {
     NoMemory,
     /// The output failed.
     OutputFailed,
+    /// The bytes are no script.
+    ScriptRefused,
+    /// This line, counted from 1, is the first that is no event.
+    EventsRefused(u32),
     /// The file of this name is longer than its limit.
     TooLong(&'a str),
+    /// The bytes are no verified module.
+    ModuleRefused,
 }
 
 /// Writes the line of a refused text.
@@ -47,6 +56,21 @@ fn write_refusal<E: Sink>(err: &mut E, at: u32, why: Refusal) -> Result<(), Fail
         place.format(at).as_bytes(),
         b": ",
         why.words().as_bytes(),
+        b"\n",
+    ];
+    write_pieces(err, &pieces)
+}
+
+/// Writes the line of refused events.
+fn write_events_line<E: Sink>(err: &mut E, number: u32) -> Result<(), Failed>
+    ensures ok { OnOk result (Appends (E.written err.old) (E.written err.new) (err_text (events_refused number))) }
+    ensures err { OnErr result (AppendsPrefix (E.written err.old) (E.written err.new) (err_text (events_refused number))) }
+    ensures cause { HasCause (E.faults err.old) (E.faults err.new) result }
+{
+    let mut place = Buffer::new();
+    let pieces: [&[u8]; 3] = [
+        b"events refused: line ",
+        place.format(number).as_bytes(),
         b"\n",
     ];
     write_pieces(err, &pieces)
@@ -80,12 +104,14 @@ impl<'a> Ending<'a> {
         match self {
             Ending::Done => 0,
             Ending::NoCommand => 2,
-            Ending::CannotUse(_) => 3,
+            Ending::CannotLoad(_) | Ending::CannotWrite(_) => 3,
             Ending::Refused { .. } => 4,
             Ending::Fault(_) => 5,
             Ending::NoMemory => 6,
             Ending::OutputFailed => 7,
+            Ending::ScriptRefused | Ending::EventsRefused(_) => 8,
             Ending::TooLong(_) => 9,
+            Ending::ModuleRefused => 10,
         }
     }
 
@@ -98,12 +124,27 @@ impl<'a> Ending<'a> {
         match self {
             Ending::Done => Ok(()),
             Ending::NoCommand => write_all(err, b"no command\n"),
-            Ending::CannotUse(name) => write_file_line(err, name, b": cannot be used"),
+            Ending::CannotLoad(name) | Ending::CannotWrite(name) => {
+                write_file_line(err, name, b": cannot be used")
+            }
             Ending::Refused { at, why } => write_refusal(err, *at, *why),
             Ending::Fault(end) => write_fault(err, *end),
             Ending::NoMemory => write_all(err, b"out of memory\n"),
             Ending::OutputFailed => write_all(err, b"output failed\n"),
+            Ending::ScriptRefused => write_all(err, b"script refused\n"),
+            Ending::EventsRefused(line) => write_events_line(err, *line),
             Ending::TooLong(name) => write_file_line(err, name, b": too long"),
+            Ending::ModuleRefused => write_all(err, b"module refused\n"),
         }
     }
+}
+
+/// Tells of the ending, and answers its status.
+pub(crate) fn conclude<E: Sink>(ending: Ending<'_>, err: &mut E) -> u8
+    ensures status { result ≡ status_of (ending_seen ending.entry) }
+    ensures line { Gets (E.written err.old) (E.written err.new) (E.faults err.old) (E.faults err.new) (err_text (ending_seen ending.entry)) }
+    ensures later { E.faults err.old ≤ E.faults err.new }
+{
+    let _ = ending.write(err);
+    ending.status()
 }

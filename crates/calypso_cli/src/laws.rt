@@ -2,7 +2,11 @@
 
 ghost use Rattle.calypso_cli.specs.Laws.{ComesToOne};
 
-/// On the same files a command comes to one outcome at most.
+use bytecode::laws::one_module;
+
+/// On the same sight of the outside a command comes to one outcome at most.
 pub fn one_outcome()
     ensures { ComesToOne }
-{}
+{
+    one_module();
+}

@@ -1,17 +1,17 @@
 //! The command line of Calypso over any files, streams and gate that are handed in.
 #![tactic(auto)]
 
-mod command;
+mod check;
 mod ending;
 pub mod laws;
 mod lines;
 mod load;
+mod no_threads;
 mod run;
+mod served;
 mod top;
 
-pub use command::{Command, WordsError, read_words};
+pub use command_words::{Command, Flags, WordsError, read_words};
 pub use ending::Ending;
+pub use no_threads::plain;
 pub use top::{calypso, out_of_memory};
-
-#[cfg(test)]
-mod tests;

@@ -29,7 +29,7 @@ pub(crate) fn load_program<'a, F: Files>(
 {
     let text = match files.load(alloc, file, PROGRAM_LIMIT) {
         Ok(text) => text,
-        Err(LoadError::Failed) => return Err(Ending::CannotUse(file)),
+        Err(LoadError::Failed) => return Err(Ending::CannotLoad(file)),
         Err(LoadError::NoMemory) => return Err(Ending::NoMemory),
     };
     if text.len() > PROGRAM_LIMIT {

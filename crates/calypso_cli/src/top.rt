@@ -1,29 +1,24 @@
 //! The top call: all that the program does.
 
-ghost use Rattle.std.specs.Prelude.{◌≡◌, ◌≤◌, map, string_bytes, []};
-ghost use Rattle.calypso_cli.specs.Commands.{check, eval, run};
+ghost use Rattle.std.specs.Prelude.{◌≡◌, ◌≤◌, true, [], map, string_bytes, Some};
+ghost use Rattle.command_words.specs.Words.{command_of};
+ghost use Rattle.command_words.specs.Seen.{command_seen};
+ghost use Rattle.calypso_cli.specs.Served as serving;
+ghost use Rattle.calypso_cli.specs.Served.{served, WaitsForNobody};
 ghost use Rattle.calypso_cli.specs.Promise.{objects_of, Gets, MayUse, MayDo, Works, KeepsPromise};
+ghost use Rattle.calypso_cli.specs.Seen.{ending_seen};
 ghost use Rattle.calypso_cli.specs.Endings.{no_memory, status_of, err_text};
-ghost use Rattle.calypso_cli.specs.Seen.{command_seen, ending_seen};
 
 use crate::Ending;
-use crate::command::{Command, WordsError, read_words};
-use crate::load::load_program;
-use crate::run::{evaluate, print};
+use crate::ending::conclude;
+use crate::no_threads::plain;
+use crate::run::run_file;
+use crate::served::is_served;
 use cal_base::{Files, Gate, Sink};
+use command_words::{Command, WordsError, read_words};
 use std::alloc::Global;
 use std::sync::Wait;
 use std::thread::Threads;
-
-/// Tells of the ending, and answers its status.
-fn conclude<E: Sink>(ending: Ending<'_>, err: &mut E) -> u8
-    ensures status { result ≡ status_of (ending_seen ending.entry) }
-    ensures line { Gets (E.written err.old) (E.written err.new) (E.faults err.old) (E.faults err.new) (err_text (ending_seen ending.entry)) }
-    ensures later { E.faults err.old ≤ E.faults err.new }
-{
-    let _ = ending.write(err);
-    ending.status()
-}
 
 /// Tells that memory was wanted even for the words of the command line, and answers the status for that.
 pub fn out_of_memory<E: Sink>(err: &mut E) -> u8
@@ -34,60 +29,16 @@ pub fn out_of_memory<E: Sink>(err: &mut E) -> u8
     conclude(Ending::NoMemory, err)
 }
 
-/// Writes the canonical text of the program in a file.
-fn check_file<'a, F: Files, S: Sink>(
-    alloc: Global,
-    file: &'a str,
-    files: &mut F,
-    out: &mut S,
-) -> Ending<'a>
-    requires { F.may_load file.now }
-    ensures works { Works (check file.now)
-        (objects_of (F.holds files.old) (S.written out.old) (F.faults files.old) (S.faults out.old))
-        (objects_of (F.holds files.new) (S.written out.new) (F.faults files.new) (S.faults out.new))
-        (ending_seen result) [] }
-    ensures files_later { F.faults files.old ≤ F.faults files.new }
-    ensures out_later { S.faults out.old ≤ S.faults out.new }
-{
-    match load_program(alloc, files, file) {
-        Ok(program) => print(alloc, &program, out),
-        Err(ending) => ending,
-    }
-}
-
-/// Runs the program in a file.
-fn run_file<'a, F: Files, S: Sink>(
-    alloc: Global,
-    file: &'a str,
-    files: &mut F,
-    out: &mut S,
-) -> Ending<'a>
-    requires { F.may_load file.now }
-    ensures evals { Works (eval file.now)
-        (objects_of (F.holds files.old) (S.written out.old) (F.faults files.old) (S.faults out.old))
-        (objects_of (F.holds files.new) (S.written out.new) (F.faults files.new) (S.faults out.new))
-        (ending_seen result) [] }
-    ensures runs { Works (run file.now)
-        (objects_of (F.holds files.old) (S.written out.old) (F.faults files.old) (S.faults out.old))
-        (objects_of (F.holds files.new) (S.written out.new) (F.faults files.new) (S.faults out.new))
-        (ending_seen result) [] }
-    ensures files_later { F.faults files.old ≤ F.faults files.new }
-    ensures out_later { S.faults out.old ≤ S.faults out.new }
-{
-    match load_program(alloc, files, file) {
-        Ok(program) => evaluate(alloc, &program, out),
-        Err(ending) => ending,
-    }
-}
-
-/// Does what the command asks for.
+/// Does what a served command asks for that runs worker threads. `run` needs none yet.
 fn carry_out<'a, F: Files, S: Sink>(
     alloc: Global,
     command: &'a Command,
     files: &mut F,
     out: &mut S,
 ) -> Ending<'a>
-    requires { MayUse F.may_load F.may_write (command_seen command.now) }
+    requires waits { WaitsForNobody (command_seen command.now) → ⊥ }
+    requires is_served { serving.is_served (command_seen command.now) ≡ true }
+    requires may_use { MayUse F.may_load F.may_write (command_seen command.now) }
     ensures works { Works (command_seen command.now)
         (objects_of (F.holds files.old) (S.written out.old) (F.faults files.old) (S.faults out.old))
         (objects_of (F.holds files.new) (S.written out.new) (F.faults files.new) (S.faults out.new))
@@ -96,16 +47,79 @@ fn carry_out<'a, F: Files, S: Sink>(
     ensures out_later { S.faults out.old ≤ S.faults out.new }
 {
     match command {
-        Command::Check { file } => check_file(alloc, file, files, out),
-        Command::Eval { file } => run_file(alloc, file, files, out),
-        Command::Run { file } => run_file(alloc, file, files, out),
+        Command::Run { file, .. } => run_file(alloc, file.as_str(), files, out),
+        _ => unreachable!(),
+    }
+}
+
+/// Does what a command asks for that runs worker threads, so is `run`, `exec` or `selfrun`, and answers the status of the process.
+fn with_threads<F: Files, S: Sink, E: Sink>(
+    alloc: Global,
+    command: &Command,
+    files: &mut F,
+    out: &mut S,
+    err: &mut E,
+) -> u8
+    requires waits { WaitsForNobody (command_seen command.now) → ⊥ }
+    requires may_use { MayDo F.may_load F.may_write (served (Some (command_seen command.now))) }
+    ensures { KeepsPromise (served (Some (command_seen command.now)))
+        (record {
+          objects = objects_of (F.holds files.old) (S.written out.old) (F.faults files.old) (S.faults out.old);
+          err = E.written err.old;
+          err_faults = E.faults err.old;
+        })
+        (record {
+          objects = objects_of (F.holds files.new) (S.written out.new) (F.faults files.new) (S.faults out.new);
+          err = E.written err.new;
+          err_faults = E.faults err.new;
+        })
+        result }
+{
+    if !is_served(command) {
+        return conclude(Ending::NoCommand, err);
+    }
+    let ending = carry_out(alloc, command, files, out);
+    conclude(ending, err)
+}
+
+/// Does what a command asks for, and answers the status of the process.
+fn does_command<F: Files, S: Sink, E: Sink>(
+    alloc: Global,
+    command: &Command,
+    files: &mut F,
+    out: &mut S,
+    err: &mut E,
+) -> u8
+    requires { MayDo F.may_load F.may_write (served (Some (command_seen command.now))) }
+    ensures { KeepsPromise (served (Some (command_seen command.now)))
+        (record {
+          objects = objects_of (F.holds files.old) (S.written out.old) (F.faults files.old) (S.faults out.old);
+          err = E.written err.old;
+          err_faults = E.faults err.old;
+        })
+        (record {
+          objects = objects_of (F.holds files.new) (S.written out.new) (F.faults files.new) (S.faults out.new);
+          err = E.written err.new;
+          err_faults = E.faults err.new;
+        })
+        result }
+{
+    match command {
+        Command::Check { .. }
+        | Command::Eval { .. }
+        | Command::Sim { .. }
+        | Command::Build { .. }
+        | Command::Gen { .. } => plain(alloc, command, files, out, err),
+        Command::Run { .. } | Command::Exec { .. } | Command::Selfrun { .. } => {
+            with_threads(alloc, command, files, out, err)
+        }
     }
 }
 
 /// Does what the words of the command line ask for, and answers the status of the process.
 ///
-/// The words come without the program's own name. The commands are told in `docs/RUNTIME.md`, and what is promised of
-/// each in `docs/PROMISES.md`.
+/// The words come without the program's own name. The commands are told in `docs/RUNTIME.md`, with those that are served today, and what
+/// is promised of each in `docs/PROMISES.md`.
 pub fn calypso<R: Threads + Wait + Sync, F: Files, S: Sink, E: Sink, G: Gate>(
     _rt: &R,
     alloc: Global,
@@ -115,8 +129,8 @@ pub fn calypso<R: Threads + Wait + Sync, F: Files, S: Sink, E: Sink, G: Gate>(
     err: &mut E,
     _gate: &G,
 ) -> u8
-    requires { MayDo F.may_load F.may_write (map string_bytes words.now) }
-    ensures { KeepsPromise (map string_bytes words.now)
+    requires { MayDo F.may_load F.may_write (served (command_of (map string_bytes words.now))) }
+    ensures { KeepsPromise (served (command_of (map string_bytes words.now)))
         (record {
           objects = objects_of (F.holds files.old) (S.written out.old) (F.faults files.old) (S.faults out.old);
           err = E.written err.old;
@@ -130,10 +144,7 @@ pub fn calypso<R: Threads + Wait + Sync, F: Files, S: Sink, E: Sink, G: Gate>(
         result }
 {
     match read_words(alloc, words) {
-        Ok(command) => {
-            let ending = carry_out(alloc, &command, files, out);
-            conclude(ending, err)
-        }
+        Ok(command) => does_command(alloc, &command, files, out, err),
         Err(WordsError::NoCommand) => conclude(Ending::NoCommand, err),
         Err(WordsError::NoMemory) => conclude(Ending::NoMemory, err),
     }

@@ -8,9 +8,7 @@ use Rattle.bytecode.specs.declared.module.Module.{Module}
 use Rattle.code_verify.specs.Rules.{HoldsNoTally}
 use Rattle.code_verify.specs.Tests.{Each, EachBelow, HoldsTally}
 use Rattle.code_verify.proofs.Walking.{not_past}
-
-some_same : {A : Type 0} (x y : A) (o : Option A) → o ≡ Some x → o ≡ Some y → x ≡ y
-some_same x y o p q = cc
+use Rattle.cal_terms.proofs.Lists.{some_same}
 
 -- an entry within a list is there
 pub entry_there : {A : Type 0} (xs : List A) (n : ℕ) (x : A) → n < length xs → x ≡ get_or xs n x → slice_get xs n ≡ Some x

@@ -11,6 +11,7 @@ use Rattle.bytecode.specs.declared.module.Code.{Code}
 use Rattle.bytecode.specs.declared.module.Module.{Module}
 use Rattle.bytecode.specs.Spelling.{HasSpelling}
 use Rattle.code_verify.specs.Kinds.{Kinds, after}
+use Rattle.cal_terms.specs.declared.limits.TheConstants.{MOST_WORDS}
 
 -- this instruction stands at this place of the code
 abbrev pub Stands : Code → ℕ → Instr → Type 0
@@ -225,7 +226,7 @@ pub record IsMain (m : Module) (c : Code) : Type 0 where
 -- the module keeps all rules
 pub record IsVerified (m : Module) : Type 0 where
   pub spelled : HasSpelling m
-  pub few_words : m.words ≤ 262144
+  pub few_words : m.words ≤ MOST_WORDS
   pub few_functions : length m.functions ≤ 256
   pub tallies : AllByRecursion (λ a. IsWord m a) m.tallies
   pub initial : AllByRecursion (λ e. IsWord m e.0) m.initial

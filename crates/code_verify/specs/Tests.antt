@@ -12,6 +12,7 @@ use Rattle.bytecode.specs.declared.module.Module.{Module}
 use Rattle.code_verify.specs.declared.owner.Owner.{Owner}
 use Rattle.code_verify.specs.declared.owner.Owner.TheVariants.{Function, Block, Main}
 use Rattle.code_verify.specs.Rules.{Stands, IsSound, IsWord, IsInRange, IsAhead, IsPlainArray, IsNotMains, CallsNoLater, MayStandInMain, IsTally, UsesTally}
+use Rattle.cal_terms.specs.declared.limits.TheConstants.{MOST_WORDS}
 
 -- the instruction may stand in the code of this owner, tally words aside
 abbrev pub MayStandIn : Module → Owner → Instr → Type 0
@@ -79,7 +80,7 @@ pub record IsQuietBlock (m : Module) (uses : List Bool) (c : Code) : Type 0 wher
 -- the rules on the module's parts but its codes
 pub record HasParts (m : Module) : Type 0 where
   pub spelled : HasSpelling m
-  pub few_words : m.words ≤ 262144
+  pub few_words : m.words ≤ MOST_WORDS
   pub few_functions : length m.functions ≤ 256
   pub tallies : AllByRecursion (λ a. IsWord m a) m.tallies
   pub initial : AllByRecursion (λ e. IsWord m e.0) m.initial

@@ -13,11 +13,9 @@ use crate::uses::uses_of;
 use crate::verified::{Verified, VerifyError};
 use bytecode::{Module, has_spelling};
 use cal_terms::NoMemory;
+use cal_terms::limits::MOST_WORDS;
 use sqlite_items::Items;
 use std::alloc::Global;
-
-/// How many words and functions a module has at most.
-const MOST_WORDS: u32 = 262144;
 
 const MOST_FUNCTIONS: usize = 256;
 

@@ -21,7 +21,7 @@ use Rattle.compiled_code.specs.Laws.{HasRoutines}
 use Rattle.compiled_code.proofs.Meaning.{means_the_same, opens_the_same, has_routines}
 use Rattle.type_check.specs.Faults.{IsAccepted}
 use Rattle.accepted_code.proofs.Accepted.{accepted_shape}
-use Rattle.type_check.proofs.ExpressionLemmas.{next_item}
+use Rattle.cal_terms.proofs.Lists.{next_item}
 use Rattle.accepted_code.specs.Laws.{HasBytes}
 use Rattle.accepted_code.proofs.Verified.{is_verified}
 use Rattle.accepted_code.proofs.Named.{named_is}

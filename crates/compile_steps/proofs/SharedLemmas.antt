@@ -11,21 +11,9 @@ use Rattle.csl_tree.specs.declared.program.Shared.{Shared}
 use Rattle.csl_tree.specs.declared.program.Valued.{Valued}
 use Rattle.csl_meaning.specs.Layout.{word_count, words_in, first_words, first_memory}
 use Rattle.compiled_code.specs.Modules.{with_tally, tallies_from, initial_from}
-use Rattle.accepted_code.proofs.SharedWords.{length_words}
+use Rattle.accepted_code.proofs.SharedWords.{length_words, tallies_append, no_tallies}
 
 -- ---- two memories, one behind the other
-
-tallies_append : (xs ys : Memory) (at : ℕ) → tallies_from at (xs ++ ys) ≡ tallies_from at xs ++ tallies_from (at + length xs) ys
-tallies_append [] ys at = let here : at ≡ at + 0 = omega arith in ap (λ (n : ℕ). tallies_from n ys) here
-tallies_append (w ∷ xs) ys at = by w.kind (tallies_append xs ys (suc at) ∙ ap (λ (n : ℕ). tallies_from (suc at) xs ++ tallies_from n ys) same)
-  where
-    same : suc at + length xs ≡ at + suc (length xs)
-    same = omega arith
-
-    by : (kind : WordKind) → tallies_from (suc at) (xs ++ ys) ≡ tallies_from (suc at) xs ++ tallies_from (at + suc (length xs)) ys
-        → with_tally kind at (tallies_from (suc at) (xs ++ ys)) ≡ with_tally kind at (tallies_from (suc at) xs) ++ tallies_from (at + suc (length xs)) ys
-    by Ordinary h = h
-    by Tally h = ap (λ (l : List ℕ). at ∷ l) h
 
 initial_append : (xs ys : Memory) (at : ℕ) → initial_from at (xs ++ ys) ≡ initial_from at xs ++ initial_from (at + length xs) ys
 initial_append [] ys at = let here : at ≡ at + 0 = omega arith in ap (λ (n : ℕ). initial_from n ys) here
@@ -60,11 +48,6 @@ all_tallies : (n : ℕ) (values : List ℤ) (at : ℕ) → n ≤ length values �
 all_tallies zero values at le = refl
 all_tallies (suc n) [] at le = absurd (omega (arith, le))
 all_tallies (suc n) (z ∷ values) at le = ap (λ (l : List ℕ). at ∷ l) (all_tallies n values (suc at) (omega (arith, le))) ∙ sym (addresses_first at n)
-
-no_tallies : (n : ℕ) (values : List ℤ) (at : ℕ) → tallies_from at (memory_of (replicate n Ordinary) values) ≡ []
-no_tallies zero values at = refl
-no_tallies (suc n) [] at = refl
-no_tallies (suc n) (z ∷ values) at = no_tallies n values (suc at)
 
 -- the words of a tally declaration are all tally words
 pub tallies_of_tally : (s : Shared) (at : ℕ) → s.kind ≡ Tally → tallies_from at (first_words s) ≡ addresses at (words_in s)

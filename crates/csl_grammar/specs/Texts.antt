@@ -5,6 +5,7 @@ use Rattle.csl_tree.specs.declared.program.Program.{Program}
 use Rattle.csl_lexer.specs.Tokens.{IsTokenList}
 use Rattle.csl_grammar.specs.Levels.{IsFlat}
 use Rattle.csl_grammar.specs.Programs.{SpellsProgram}
+use Rattle.cal_terms.specs.declared.limits.TheConstants.{MOST_TEXT}
 
 -- a text spells a program: it is a list of tokens, none of which nests too deeply, and the grammar relates them to the program
 pub record Spells (text : List ℕ) (p : Program) : Type 0 where
@@ -23,7 +24,7 @@ IsSpelledWithin limit p = (text : List ℕ) × (length text ≤ limit) × Spells
 
 -- the longest text of a program, in bytes
 abbrev pub text_limit : ℕ
-text_limit = 1048576
+text_limit = MOST_TEXT
 
 -- a text spells one program at most
 abbrev pub TextSpellsOne : Type 0

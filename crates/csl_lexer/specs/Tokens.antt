@@ -10,6 +10,7 @@ use Rattle.csl_tree.specs.declared.token.Mark.{Mark}
 use Rattle.csl_tree.specs.declared.token.Mark.TheVariants as mark
 use Rattle.csl_lexer.specs.declared.LexError.{LexError}
 use Rattle.csl_lexer.specs.declared.LexError.TheVariants as fault
+use Rattle.cal_terms.specs.declared.limits.TheConstants.{MOST_TEXT}
 
 -- space, tab, CR or LF
 abbrev pub IsBlank : ℕ → Type 0
@@ -196,5 +197,5 @@ IsFirstFault text e = Reads 0 text (Err e)
 -- the tokens are the token list of some text of at most 1,048,576 bytes
 pub record SomeText (tokens : List Token) : Type 0 where
   pub text : List ℕ
-  pub short : length text ≤ 1048576
+  pub short : length text ≤ MOST_TEXT
   pub reads : IsTokenList text tokens

@@ -8,6 +8,7 @@ ghost use Rattle.csl_lexer.specs.Laws.{ReadsOneWay, ListsEnd, PlacesAscend};
 
 use crate::item::item;
 use cal_terms::NoMemory;
+use cal_terms::limits::MOST_TEXT;
 use csl_tree::token::{Token, TokenKind};
 use std::alloc::{AllocFailed, Global};
 
@@ -57,7 +58,7 @@ impl<T: Drop> From<AllocFailed<T>> for LexError {
 /// The tokens of a text of at most 1,048,576 bytes, with the end of the text as the last one; or the text's first fault, or
 /// `NoMemory` where there is no memory for the tokens.
 pub fn lex(alloc: Global, text: &[u8]) -> Result<Vec<Token>, LexError>
-    requires { length text.now ≤ 1_048_576 }
+    requires { length text.now ≤ MOST_TEXT }
     ensures tokens { IfOk result (λ tokens. IsTokenList text.now tokens.items) }
     ensures first_fault { IfErr result (λ e. e ≢ fault.NoMemory → IsFirstFault text.now e) }
 {

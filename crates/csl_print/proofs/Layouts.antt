@@ -7,6 +7,7 @@ use Rattle.csl_tree.specs.declared.token.TokenKind.{TokenKind}
 use Rattle.csl_print.specs.Canonical.{blanks}
 use Rattle.csl_print.specs.Layout.{Laid, adds, adds_all}
 use Rattle.csl_print.specs.TreeTokens.{each, further, parted}
+pub use Rattle.cal_terms.proofs.Lists.{next_item}
 
 -- one step more
 pub blanks_more : (steps : ℕ) → blanks steps ++ 32 ∷ 32 ∷ [] ≡ blanks (steps + 1)
@@ -19,10 +20,6 @@ blanks_more steps =
 -- tokens added, and then others
 pub also : (f g h : Laid) (xs ys : List TokenKind) → g ≡ adds_all f xs → h ≡ adds_all g ys → h ≡ adds_all f (xs ++ ys)
 also f g h xs ys first then = then ∙ ap (λ l. adds_all l ys) first ∙ sym (fold-append adds f xs ys)
-
--- an item of a list and those after it
-pub next_item : {A : Type 0} (s : List A) (i : ℕ) (x : A) → i < length s → x ≡ get_or s i x → drop i s ≡ x ∷ drop (i + 1) s
-next_item s i x lt is = rw add-one (drop-cons s i x lt ∙ ap (λ y. y ∷ drop (suc i) s) (sym is))
 
 module _ {T : Type 0} (between : List TokenKind) (tokens : T → List TokenKind) where
   -- the first part of a list, and then the further ones

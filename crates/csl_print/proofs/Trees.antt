@@ -22,6 +22,7 @@ use Rattle.csl_tree.specs.declared.name.Name.{Name}
 use Rattle.csl_grammar.specs.Expressions.{mark_of, prefix_mark, place, call}
 use Rattle.csl_grammar.specs.Programs.{arm}
 use Rattle.csl_print.specs.TreeTokens.{mark, named, in_parens, separated, further, node_tokens, expr_tokens, place_tokens, call_tokens, row_tokens, further_tokens, word, each, parted, in_braces, form_tokens, statements_tokens, statement_tokens, body_tokens, arm_of, arm_tokens, arms_tokens, further_arms_tokens, routine_of, routine_tokens, routines_tokens}
+pub use Rattle.cal_terms.proofs.Lists.{append_none}
 
 pub tokens_unary : (n : Node) (op : UnaryOp) (a : Expr) → n ≡ node.Unary op a → node_tokens n ≡ mark (prefix_mark op) ++ expr_tokens a
 unfolding shape-the_row-Expr-0 hidden-the_row-Expr-0 hidden
@@ -89,10 +90,6 @@ arms_is [] = refl
 arms_is (a ∷ rest) =
     ap (λ x. arms_tokens (more_of-Arm x (hidden-the_row-Arm-0 rest))) (is-Arm' a)
     ∙ (λ i. arm_is a i ++ further_arms_is rest i)
-
-pub append_none : {X : Type 0} (xs : List X) → xs ++ [] ≡ xs
-append_none [] = refl
-append_none (x ∷ xs) = ap (λ r. x ∷ r) (append_none xs)
 
 pub tokens_if_none : (f : Form) (arms : List Arm) (last : Option (List Stmt)) → f ≡ form.If arms last → last ≡ None → form_tokens f ≡ parted (word keyword.Else) arm_tokens arms
 tokens_if_none f arms last e none = ap form_tokens e ∙ ap (λ l. form_tokens (form.If arms l)) none ∙ append_none _ ∙ arms_is arms

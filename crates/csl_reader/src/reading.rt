@@ -12,6 +12,7 @@ ghost use Rattle.csl_reader.specs.Errors.{IsRefused, AreRefused, IsFaulty};
 ghost use Rattle.csl_reader.specs.Laws.{ReadOneWay, AcceptedAreSpelled};
 
 use crate::refusal::ReadError;
+use cal_terms::limits::MOST_TEXT;
 use csl_lexer::lex;
 use csl_parser::parse;
 use csl_tree::program::Program;
@@ -22,7 +23,7 @@ use type_check::program::check;
 
 /// The token list of a text, or its first fault.
 fn tokens_of(alloc: Global, text: &[u8]) -> Result<Vec<Token>, ReadError>
-    requires { length text.now ≤ 1048576 }
+    requires { length text.now ≤ MOST_TEXT }
     ensures tokens { IfOk result (λ tokens. IsTokenList text.now tokens.items) }
     ensures refused { IfErr result (IsRefused text.now) }
 {
@@ -59,7 +60,7 @@ fn accepted(alloc: Global, p: Program) -> Result<Checked, ReadError>
 /// The accepted program that a text of at most 1,048,576 bytes spells, or why it is refused: the first fault of its tokens;
 /// else the first token that is too deep; else the first that no program allows; else the program's first fault.
 pub fn read_program(alloc: Global, text: &[u8]) -> Result<Checked, ReadError>
-    requires { length text.now ≤ 1048576 }
+    requires { length text.now ≤ MOST_TEXT }
     ensures accepted { IfOk result (λ program. IsRead text.now (reading.accepted program)) }
     ensures refused { IfErr result (IsRefused text.now) }
 {

@@ -6,9 +6,6 @@ ghost use Rattle.std.specs.List.{sum};
 ghost use Rattle.cal_base.specs.Claims.{is_spent};
 ghost use Rattle.eager_claim.specs.Claimed.{claimed_in, noted};
 
-#[cfg(test)]
-mod tests;
-
 pub use cal_base::Claimed;
 use cal_base::{CALLER, claim_bound};
 use progress_table::ProgressTable;

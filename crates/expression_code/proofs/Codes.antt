@@ -19,7 +19,7 @@ use Rattle.csl_meaning.specs.Layout.{area_of}
 use Rattle.csl_meaning.specs.Value.{declared}
 use Rattle.bytecode.specs.declared.instr.Instr.{Instr}
 use Rattle.bytecode.specs.declared.instr.Instr.TheVariants as i
-use Rattle.type_check.proofs.ExpressionLemmas.{next_item}
+use Rattle.cal_terms.proofs.Lists.{next_item}
 use Rattle.compiled_code.specs.Slots.{Slots, slot_of}
 use Rattle.compiled_code.specs.Sizes.{size_of}
 use Rattle.compiled_code.specs.Values.{unary_instr, binary_instr, binary_code, read_instr, item_instr, function_number, value_code, read_code, call_code, values_code, code_of, kind_in}

@@ -14,15 +14,12 @@ use Rattle.compiled_code.specs.Slots.{Slots}
 use Rattle.compiled_code.specs.Sizes.{kinds_in, kinds_in_row, kinds_in_arms}
 use Rattle.compiled_code.specs.Places.{slots_after}
 use Rattle.expression_code.specs.Lists.{kinds_of, kinds_of_arms, kinds_of_last, slots_after_all}
+pub use Rattle.cal_terms.proofs.Lists.{append_none}
 
 -- what holds anyway
 pub on_ok : {T E P : Type 0} (r : Result T E) → P → OnOk r P
 on_ok (Ok x) h = h
 on_ok (Err e) h = tt
-
-pub append_none : {X : Type 0} (xs : List X) → xs ++ [] ≡ xs
-append_none [] = refl
-append_none (x ∷ xs) = ap (λ r. x ∷ r) (append_none xs)
 
 -- ---- the locals that become visible
 

@@ -24,9 +24,7 @@ use Rattle.csl_tree.specs.declared.program.UnaryOp.TheVariants as unary_op
 use Rattle.csl_tree.specs.declared.program.BinaryOp.TheVariants as binary_op
 use Rattle.csl_tree.specs.declared.token.Keyword.{Keyword}
 use Rattle.csl_tree.specs.declared.token.Keyword.TheVariants as word
-
-some_same : {A : Type 0} {x y : A} → Some x ≡ Some y → x ≡ y
-some_same e = cc
+use Rattle.cal_terms.proofs.Lists.{some_equal}
 
 operator_mark : (m : Mark) (op : BinaryOp) → operator_of m ≡ Some op → m ≡ mark_of op
 operator_mark mark.OpenBrace op e = cc
@@ -39,20 +37,20 @@ operator_mark mark.Comma op e = cc
 operator_mark mark.Semicolon op e = cc
 operator_mark mark.Assign op e = cc
 operator_mark mark.AddAssign op e = cc
-operator_mark mark.Plus op e = let same : binary_op.Add ≡ op = some_same e in ap mark_of same
-operator_mark mark.Minus op e = let same : binary_op.Sub ≡ op = some_same e in ap mark_of same
-operator_mark mark.Star op e = let same : binary_op.Mul ≡ op = some_same e in ap mark_of same
-operator_mark mark.Slash op e = let same : binary_op.Div ≡ op = some_same e in ap mark_of same
-operator_mark mark.Percent op e = let same : binary_op.Rem ≡ op = some_same e in ap mark_of same
+operator_mark mark.Plus op e = let same : binary_op.Add ≡ op = some_equal e in ap mark_of same
+operator_mark mark.Minus op e = let same : binary_op.Sub ≡ op = some_equal e in ap mark_of same
+operator_mark mark.Star op e = let same : binary_op.Mul ≡ op = some_equal e in ap mark_of same
+operator_mark mark.Slash op e = let same : binary_op.Div ≡ op = some_equal e in ap mark_of same
+operator_mark mark.Percent op e = let same : binary_op.Rem ≡ op = some_equal e in ap mark_of same
 operator_mark mark.Bang op e = cc
-operator_mark mark.Equal op e = let same : binary_op.Eq ≡ op = some_same e in ap mark_of same
-operator_mark mark.NotEqual op e = let same : binary_op.Ne ≡ op = some_same e in ap mark_of same
-operator_mark mark.Less op e = let same : binary_op.Lt ≡ op = some_same e in ap mark_of same
-operator_mark mark.LessEqual op e = let same : binary_op.Le ≡ op = some_same e in ap mark_of same
-operator_mark mark.Greater op e = let same : binary_op.Gt ≡ op = some_same e in ap mark_of same
-operator_mark mark.GreaterEqual op e = let same : binary_op.Ge ≡ op = some_same e in ap mark_of same
-operator_mark mark.AndAnd op e = let same : binary_op.And ≡ op = some_same e in ap mark_of same
-operator_mark mark.OrOr op e = let same : binary_op.Or ≡ op = some_same e in ap mark_of same
+operator_mark mark.Equal op e = let same : binary_op.Eq ≡ op = some_equal e in ap mark_of same
+operator_mark mark.NotEqual op e = let same : binary_op.Ne ≡ op = some_equal e in ap mark_of same
+operator_mark mark.Less op e = let same : binary_op.Lt ≡ op = some_equal e in ap mark_of same
+operator_mark mark.LessEqual op e = let same : binary_op.Le ≡ op = some_equal e in ap mark_of same
+operator_mark mark.Greater op e = let same : binary_op.Gt ≡ op = some_equal e in ap mark_of same
+operator_mark mark.GreaterEqual op e = let same : binary_op.Ge ≡ op = some_equal e in ap mark_of same
+operator_mark mark.AndAnd op e = let same : binary_op.And ≡ op = some_equal e in ap mark_of same
+operator_mark mark.OrOr op e = let same : binary_op.Or ≡ op = some_equal e in ap mark_of same
 
 -- what a token is that is an operator
 pub operator_kind : (k : TokenKind) (op : BinaryOp) → at_mark operator_of k ≡ Some op → k ≡ kind.Mark (mark_of op)
@@ -75,11 +73,11 @@ prefix_mark_of mark.Semicolon op e = cc
 prefix_mark_of mark.Assign op e = cc
 prefix_mark_of mark.AddAssign op e = cc
 prefix_mark_of mark.Plus op e = cc
-prefix_mark_of mark.Minus op e = let same : unary_op.Neg ≡ op = some_same e in ap prefix_mark same
+prefix_mark_of mark.Minus op e = let same : unary_op.Neg ≡ op = some_equal e in ap prefix_mark same
 prefix_mark_of mark.Star op e = cc
 prefix_mark_of mark.Slash op e = cc
 prefix_mark_of mark.Percent op e = cc
-prefix_mark_of mark.Bang op e = let same : unary_op.Not ≡ op = some_same e in ap prefix_mark same
+prefix_mark_of mark.Bang op e = let same : unary_op.Not ≡ op = some_equal e in ap prefix_mark same
 prefix_mark_of mark.Equal op e = cc
 prefix_mark_of mark.NotEqual op e = cc
 prefix_mark_of mark.Less op e = cc
@@ -216,8 +214,8 @@ truth_of_word-word word.Continue b e = cc
 truth_of_word-word word.Return b e = cc
 truth_of_word-word word.Assert b e = cc
 truth_of_word-word word.Print b e = cc
-truth_of_word-word word.True b e = let same : true ≡ b = some_same e in ap truth_word same
-truth_of_word-word word.False b e = let same : false ≡ b = some_same e in ap truth_word same
+truth_of_word-word word.True b e = let same : true ≡ b = some_equal e in ap truth_word same
+truth_of_word-word word.False b e = let same : false ≡ b = some_equal e in ap truth_word same
 truth_of_word-word word.Least b e = cc
 truth_of_word-word word.Greatest b e = cc
 

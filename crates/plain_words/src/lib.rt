@@ -7,6 +7,7 @@ ghost use Rattle.cal_base.specs.declared.value.Store.TheVariants.{Routine};
 ghost use Rattle.cal_base.specs.Stores.{base_of};
 
 use cal_base::{Image, NoMemory, Overflow, UpdateWords, WordKind, Words};
+use cal_terms::limits::MOST_WORDS;
 use std::alloc::Global;
 use std::marker::Model;
 
@@ -33,7 +34,7 @@ impl<'a> Model for PlainWords<'a> {
 
     ghost view = { λ w. record { opening = w.opening.now.memory; written = own_from 0 w.own.items } };
 
-    ghost invariant = { λ w. (length w.own.items ≡ length w.opening.now.memory) × (length w.own.items ≤ 262144) };
+    ghost invariant = { λ w. (length w.own.items ≡ length w.opening.now.memory) × (length w.own.items ≤ MOST_WORDS) };
 }
 
 impl<'a> PlainWords<'a> {

@@ -10,6 +10,7 @@ use Rattle.bytecode.specs.declared.module.Module.{Module}
 use Rattle.machine_meaning.specs.Machine.{many_numbers}
 use Rattle.routine_vm.specs.declared.event.Item.{Item}
 use Rattle.routine_vm.specs.declared.event.Item.TheVariants.{Text, Int, Truth}
+use Rattle.cal_terms.specs.declared.limits.TheConstants.{MOST_ROUTINES}
 
 -- the text of an item of a line; a text that the module has not counts as none
 abbrev pub piece_of : Module → Item → List ℕ
@@ -32,9 +33,9 @@ AreItemsOf _ _ = ⊥
 
 -- the number is this width, and with so many routines besides there are not too many, or it is none
 abbrev pub WidthBeside : ℕ → ℤ → Option ℕ → Type 0
-WidthBeside total (pos n) None = 65536 < total + n
+WidthBeside total (pos n) None = MOST_ROUTINES < total + n
 WidthBeside total (negsuc n) None = Unit {0}
-WidthBeside total z (Some width) = (z ≡ pos width) × (total + width ≤ 65536)
+WidthBeside total z (Some width) = (z ≡ pos width) × (total + width ≤ MOST_ROUTINES)
 
 -- the numbers on top are the widths of a step with so many routines, or they are none
 abbrev pub TakesWidths : ℕ → List Val → Option ℕ → List Val → List ℕ → Type 0

@@ -23,6 +23,7 @@ use Rattle.routine_vm.specs.declared.frame.Frame.{Frame}
 use Rattle.routine_vm.specs.Frames.{behind}
 use Rattle.routine_vm.specs.States.{call_of}
 use Rattle.routine_vm.specs.Events.{piece_of, AreItemsOf}
+use Rattle.cal_terms.specs.declared.limits.TheConstants.{MOST_ROUTINES}
 
 -- main's call, its fuel, and the parts of its last event
 pub record Held : Type 0 where
@@ -51,7 +52,7 @@ event_at m (Fault cause) h memory = Traps cause (Main memory) h.fuel
 pub record TellsStep (m : Module) (first blocks total : ℕ) (h : Held) : Type 0 where
   pub count : blocks ≡ length h.widths
   pub all : total ≡ sum h.widths
-  pub few : total ≤ 65536
+  pub few : total ≤ MOST_ROUTINES
   pub there : first + blocks ≤ length m.blocks
   pub may : MayGoOn m h
 

@@ -16,6 +16,7 @@ use crate::run::{Led, Run, spend};
 use crate::site::Site;
 use bytecode::{Code, Gives, Instr, Module};
 use cal_base::{Cause, Overflow, Val};
+use cal_terms::limits::MOST_WORDS;
 
 /// Goes on behind the instruction.
 fn on(call: &mut Frame) -> Led
@@ -251,7 +252,7 @@ fn on_words<W, S: Site<W>>(m: &Module, instr: &Instr, run: &mut Run, words: &mut
     requires there { IsSome (machine.step m.now instr.now (state_of m.now run.old (S.store words.old))) }
     requires place { run.old.call.place + 1 < 2 ^ 32 }
     requires room { length run.old.call.operands ≤ 1024 }
-    requires limit { m.now.words ≤ 262144 }
+    requires limit { m.now.words ≤ MOST_WORDS }
     requires words { HasWordsOf m.now (S.store words.old) }
     ensures steps { Steps instr.now (machine.step m.now instr.now (state_of m.now run.old (S.store words.old))) (state_of m.now run.old (S.store words.old)) result (state_of m.now run.new (S.store words.new)) }
     ensures bodies { HasBodiesOf run.old run.new }
@@ -346,7 +347,7 @@ pub fn perform<W, S: Site<W>>(
     requires callers { HaveRoom run.old.waiting }
     requires deep { length run.old.waiting ≤ 64 }
     requires shapes { HaveShape m.now.functions }
-    requires limit { m.now.words ≤ 262144 }
+    requires limit { m.now.words ≤ MOST_WORDS }
     requires words { HasWordsOf m.now (S.store words.old) }
     ensures steps { Steps instr.now (machine.step m.now instr.now (state_of m.now run.old (S.store words.old))) (state_of m.now run.old (S.store words.old)) result (state_of m.now run.new (S.store words.new)) }
     ensures bodies { (bottom : Body) → RunsAbove m.now bottom run.old → RunsAbove m.now bottom run.new }

@@ -8,9 +8,7 @@ use crate::event::Item;
 use crate::operands::Operands;
 use crate::parts::Parts;
 use bytecode::{Module, PrintItem};
-
-/// How many routines a step has at most.
-const MOST_ROUTINES: u32 = 65_536;
+use cal_terms::limits::MOST_ROUTINES;
 
 /// Takes a printed item, with its value from the top if it has one.
 fn take_item(m: &Module, item: PrintItem, operands: &mut Operands) -> Item
@@ -43,7 +41,7 @@ pub fn take_items(m: &Module, line: &[PrintItem], operands: &mut Operands, items
 
 /// A number as a width of a step that has this many routines besides, unless it is none.
 fn width_beside(total: u32, z: i64) -> Option<u32>
-    requires { total ≤ 65536 }
+    requires { total ≤ MOST_ROUTINES }
     ensures { WidthBeside total z result }
 {
     if 0 <= z && z <= i64::from(MOST_ROUTINES - total) {

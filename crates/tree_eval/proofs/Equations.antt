@@ -23,10 +23,7 @@ use Rattle.tree_eval.specs.declared.halt.Halt.TheVariants.{Cause, NoMemory}
 use Rattle.tree_eval.specs.Follows.{Follows, Sets, AppendsAll}
 use Rattle.tree_eval.specs.Lists.{values_of, changed}
 use Rattle.tree_eval.specs.Changes.{changed_word, changed_name, changed_item}
-
--- an item of a list and those after it
-pub next_item : {A : Type 0} (s : List A) (i : ℕ) (x : A) → i < length s → x ≡ get_or s i x → drop i s ≡ x ∷ drop (i + 1) s
-next_item s i x lt is = rw add-one (drop-cons s i x lt ∙ ap (λ y. y ∷ drop (suc i) s) (sym is))
+pub use Rattle.cal_terms.proofs.Lists.{next_item}
 
 -- a first part that stops
 pub stops_first : {A B : Type 0} (o : Outcome A) (next : A → Run B) (h : Halt) (w : World) → Follows o (Err h) w → Follows (and_then o next) (Err h) w

@@ -7,6 +7,7 @@ ghost use Rattle.tree_eval.specs.Initial.{stated_value};
 
 use crate::names::items_in;
 use cal_base::{NoMemory, Word};
+use cal_terms::limits::MOST_WORDS;
 use csl_tree::program::{Shared, Valued};
 use sqlite_items::Items;
 use std::alloc::Global;
@@ -33,7 +34,7 @@ fn word_count(items: Option<u32>) -> u32
 
 /// Appends the first words of one declaration.
 fn add_words(shared: &Shared, memory: &mut Items<Word>) -> Result<(), NoMemory>
-    requires { layout.words_in shared.now ≤ 262144 }
+    requires { layout.words_in shared.now ≤ MOST_WORDS }
     ensures { OnOk result (memory.new ≡ memory.old ++ layout.first_words shared.now) }
 {
     let kind = shared.kind;

@@ -23,6 +23,7 @@ ghost use Rattle.tree_eval.specs.Merged.{is_outside_word};
 
 use crate::store::{kind_at, set_value, value_at};
 use cal_base::{Answer, StepFault, Word, WordKind};
+use cal_terms::limits::{MOST_ROUTINES, MOST_WORDS};
 use sqlite_items::Items;
 
 /// What an answer has for a word.
@@ -90,7 +91,7 @@ fn is_shared_at(memory: &[Word], laid: &[Option<Answer>], k: u32, a: u32) -> boo
 /// The least ordinary word that number k shares with one below it, or the number of words.
 fn shared(memory: &[Word], laid: &[Option<Answer>], k: u32) -> u32
     requires number { k < length laid.now }
-    requires words { length memory.now ≤ 262144 }
+    requires words { length memory.now ≤ MOST_WORDS }
     ensures { result ≡ shared_word (kinds_of memory.now) laid.now k }
 {
     let words = memory.len() as u32;
@@ -104,7 +105,7 @@ fn shared(memory: &[Word], laid: &[Option<Answer>], k: u32) -> u32
 
 fn is_faulty_at(memory: &[Word], laid: &[Option<Answer>], k: u32) -> bool
     requires number { k < length laid.now }
-    requires words { length memory.now ≤ 262144 }
+    requires words { length memory.now ≤ MOST_WORDS }
     ensures { result ≡ is_faulty (kinds_of memory.now) laid.now k }
 {
     failed(&laid[k as usize]) || (shared(memory, laid, k) as usize) < memory.len()
@@ -112,8 +113,8 @@ fn is_faulty_at(memory: &[Word], laid: &[Option<Answer>], k: u32) -> bool
 
 /// The least faulty number, or the number of routines.
 fn least(memory: &[Word], laid: &[Option<Answer>]) -> u32
-    requires numbers { length laid.now ≤ 65536 }
-    requires words { length memory.now ≤ 262144 }
+    requires numbers { length laid.now ≤ MOST_ROUTINES }
+    requires words { length memory.now ≤ MOST_WORDS }
     ensures { result ≡ least_faulty (kinds_of memory.now) laid.now }
 {
     let n = laid.len() as u32;
@@ -145,7 +146,7 @@ fn fault_from(answer: &Option<Answer>, k: u32, word: u32, other: u32) -> StepFau
 /// The fault of number k.
 fn fault(memory: &[Word], laid: &[Option<Answer>], k: u32) -> StepFault
     requires number { k < length laid.now }
-    requires words { length memory.now ≤ 262144 }
+    requires words { length memory.now ≤ MOST_WORDS }
     ensures { result ≡ fault_of (kinds_of memory.now) laid.now k }
 {
     let word = shared(memory, laid, k);
@@ -165,7 +166,7 @@ fn added(answer: &Option<Answer>, a: u32) -> i64
 
 /// The word's value and all that was added to it.
 fn total(laid: &[Option<Answer>], a: u32, opening: i64) -> i128
-    requires { length laid.now ≤ 65536 }
+    requires { length laid.now ≤ MOST_ROUTINES }
     ensures { result ≡ fold (λ total answer. total +ℤ unwrap_or (entry_in answer a) (pos 0)) opening laid.now }
 {
     let mut total = opening as i128;
@@ -177,7 +178,7 @@ fn total(laid: &[Option<Answer>], a: u32, opening: i64) -> i128
 
 /// What the answers leave in a word.
 fn value_in(kind: WordKind, laid: &[Option<Answer>], a: u32, opening: i64) -> i128
-    requires { length laid.now ≤ 65536 }
+    requires { length laid.now ≤ MOST_ROUTINES }
     ensures value { result ≡ value_after kind laid.now a opening }
     ensures fits { IsTrue (has_one_writer kind) → IsTrue (fits_word result) }
 {
@@ -200,7 +201,7 @@ fn value_in(kind: WordKind, laid: &[Option<Answer>], a: u32, opening: i64) -> i1
 
 /// Whether what the answers leave in a word is a total outside 64 bits.
 fn is_outside_at(memory: &[Word], laid: &[Option<Answer>], a: u32) -> bool
-    requires numbers { length laid.now ≤ 65536 }
+    requires numbers { length laid.now ≤ MOST_ROUTINES }
     requires word { a < length memory.now }
     ensures { result ≡ is_outside_word memory.now laid.now a }
 {
@@ -215,8 +216,8 @@ fn is_outside_at(memory: &[Word], laid: &[Option<Answer>], a: u32) -> bool
 
 /// The least word whose total is outside 64 bits.
 fn outside(memory: &[Word], laid: &[Option<Answer>]) -> Option<u32>
-    requires numbers { length laid.now ≤ 65536 }
-    requires words { length memory.now ≤ 262144 }
+    requires numbers { length laid.now ≤ MOST_ROUTINES }
+    requires words { length memory.now ≤ MOST_WORDS }
     ensures { result ≡ position is_outside (merged_memory memory.now laid.now) }
 {
     let words = memory.len() as u32;
@@ -230,8 +231,8 @@ fn outside(memory: &[Word], laid: &[Option<Answer>]) -> Option<u32>
 
 /// Writes what the answers leave, where no total is outside 64 bits.
 fn write_all(memory: &mut Items<Word>, laid: &[Option<Answer>])
-    requires numbers { length laid.now ≤ 65536 }
-    requires words { length memory.old ≤ 262144 }
+    requires numbers { length laid.now ≤ MOST_ROUTINES }
+    requires words { length memory.old ≤ MOST_WORDS }
     requires none { position is_outside (merged_memory memory.old laid.now) ≡ None }
     ensures memory { memory.new ≡ merged_memory memory.old laid.now }
 {
@@ -246,8 +247,8 @@ fn write_all(memory: &mut Items<Word>, laid: &[Option<Answer>])
 
 /// Merges the answers into the memory, unless the step ends in a fault.
 pub fn merge(memory: &mut Items<Word>, laid: &[Option<Answer>]) -> Result<(), StepFault>
-    requires numbers { length laid.now ≤ 65536 }
-    requires words { length memory.old ≤ 262144 }
+    requires numbers { length laid.now ≤ MOST_ROUTINES }
+    requires words { length memory.old ≤ MOST_WORDS }
     ensures merged { OnOk result (after memory.old laid.now ≡ Ok memory.new) }
     ensures fault { IfErr result (λ fault. after memory.old laid.now ≡ Err fault) }
     ensures words { length memory.new ≡ length memory.old }

@@ -10,6 +10,7 @@ ghost use Rattle.csl_meaning.specs.Value as value;
 ghost use Rattle.tree_eval.specs.Fits.{FitsMemory};
 
 use cal_base::{NoMemory, Val};
+use cal_terms::limits::MOST_WORDS;
 use csl_meaning::{Area, Local};
 use csl_tree::name::Text;
 use csl_tree::program::{ArraySize, Function, Shared};
@@ -68,7 +69,7 @@ pub fn function_named<'a>(functions: &'a [Function], name: &Text) -> Option<&'a 
 
 /// How many words an array has. A size below 0 counts as 0.
 pub fn items_in(size: &Option<ArraySize>) -> Option<u32>
-    requires { layout.word_count (layout.items_in size.now) ≤ 262144 }
+    requires { layout.word_count (layout.items_in size.now) ≤ MOST_WORDS }
     ensures { result ≡ layout.items_in size.now }
 {
     match size {
@@ -87,7 +88,7 @@ pub fn items_in(size: &Option<ArraySize>) -> Option<u32>
 pub fn area_of(shared: &[Shared], name: &Text) -> Area
     requires { FitsMemory shared.now }
     ensures area { result ≡ value.declared (layout.area_of shared.now name.now) }
-    ensures within { result.first + unwrap_or result.items 0 ≤ 262144 }
+    ensures within { result.first + unwrap_or result.items 0 ≤ MOST_WORDS }
 {
     let mut first = 0u32;
     for s in shared {
@@ -105,7 +106,7 @@ pub fn area_of(shared: &[Shared], name: &Text) -> Area
 
 /// The address of an array's item, if the index is in its range.
 pub fn item_at(area: Area, index: i64) -> Option<u32>
-    requires { area.first + unwrap_or area.items 0 ≤ 262144 }
+    requires { area.first + unwrap_or area.items 0 ≤ MOST_WORDS }
     ensures { result ≡ value.item_at area index }
 {
     let items = area.items.unwrap_or(0);

@@ -19,6 +19,7 @@ use crate::routine::step_answers;
 use crate::store::take_unit;
 use crate::widths::{good_widths, widths_of};
 use cal_base::{Cause, RunEnd, Store, Word};
+use cal_terms::limits::{MOST_ROUTINES, MOST_WORDS};
 use csl_meaning::{Ending, Local, World};
 use csl_tree::program::{Program, RoutineBlock};
 use sqlite_items::Items;
@@ -35,7 +36,7 @@ fn ready(
 ) -> Result<Items<u32>, Halt>
     requires { FitsMemory p.now.shared }
     ensures follows { Follows (ready_widths p.now locals.now blocks.now world.old) result world.new }
-    ensures few { IfOk result (λ widths. sum widths ≤ 65536) }
+    ensures few { IfOk result (λ widths. sum widths ≤ MOST_ROUTINES) }
     ensures taken { OnOk result (world.new.fuel + 1 ≤ world.old.fuel) }
     ensures fuel { world.new.fuel ≤ world.old.fuel }
     ensures stays { stays world.new ≡ stays world.old }
@@ -71,8 +72,8 @@ fn step(
     world: &mut World,
 ) -> Result<(), MainHalt>
     requires fits { FitsMemory p.now.shared }
-    requires few { sum widths.now ≤ 65536 }
-    requires words { length (stores.memory_in world.old.store) ≤ 262144 }
+    requires few { sum widths.now ≤ MOST_ROUTINES }
+    requires words { length (stores.memory_in world.old.store) ≤ MOST_WORDS }
     requires steps { world.old.steps + world.old.fuel + 1 < 2 ^ 32 }
     ensures tells { (text : Option (List ℕ)) → TellsOf (meaning.open_step p.now fuel blocks.now widths.now world.old) result world.new text text }
     ensures quiet { IsErrOf result out_failed → ⊥ }

@@ -12,13 +12,11 @@ use crate::halt::Halt;
 use crate::operators::number_in;
 use crate::stmt::{MOST_LEVELS, value};
 use cal_base::NoMemory;
+use cal_terms::limits::MOST_ROUTINES;
 use csl_meaning::{Local, World};
 use csl_tree::program::{Program, RoutineBlock};
 use sqlite_items::Items;
 use std::alloc::Global;
-
-/// The most routines of a step.
-const MOST_ROUTINES: u32 = 65_536;
 
 /// Appends the widths of the blocks, evaluated from left to right.
 pub fn widths_of(

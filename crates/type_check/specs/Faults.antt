@@ -22,10 +22,11 @@ use Rattle.type_check.specs.Listed.{is_tally_used, in_position, first, fault, fa
 use Rattle.type_check.specs.Names.{Names, taken, declare}
 use Rattle.type_check.specs.Bodies.{locals_in, ends}
 use Rattle.type_check.specs.Statements.{faults, body_of, too_many_locals}
+use Rattle.cal_terms.specs.declared.limits.TheConstants.{MOST_WORDS}
 
 -- the most shared words of a program
 abbrev pub most_words : ℕ
-most_words = 262144
+most_words = MOST_WORDS
 
 -- the most functions of a program
 abbrev pub most_functions : ℕ

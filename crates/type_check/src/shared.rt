@@ -9,11 +9,9 @@ use crate::fault::CheckKind;
 use crate::found::Found;
 use crate::names::Declaration;
 use crate::table::Table;
+use cal_terms::limits::MOST_WORDS;
 use cal_terms::{NoMemory, WordKind};
 use csl_tree::program::{ArraySize, Shared, Valued};
-
-/// The most shared words of a program.
-const MOST_WORDS: u32 = 262_144;
 
 /// A size, and 0 for one that is negative or too large.
 fn good_size(number: i64) -> u32

@@ -1,8 +1,8 @@
 -- Bits of a list of masks.
-use Rattle.std.proofs.Common.{◌≡◌, ◌≢◌, ℕ, zero, suc, ◌+◌, ◌-◌, ◌*◌, ◌/◌, ◌%◌, ◌^◌, ◌<◌, ◌≤◌, Bool, true, false, List, [], ◌∷◌, length, get_or, set, Option, Some, None, refl, sym, ap, ◌∙◌, arith, ⊎_elim, bit_and, bit_or, nat_eq, w64, shr-shr}
+use Rattle.std.proofs.Common.{◌≡◌, ◌≢◌, ℕ, zero, suc, ◌+◌, ◌-◌, ◌*◌, ◌/◌, ◌%◌, ◌^◌, ◌<◌, ◌≤◌, true, false, List, [], ◌∷◌, length, set, Some, None, refl, sym, ap, ◌∙◌, arith, ⊎_elim, bit_and, bit_or, nat_eq, w64, shr-shr}
 use Rattle.std.specs.Int.{bit_at}
 use Rattle.std.specs.Int.Count.{count_trailing_zeros}
-use Rattle.std.proofs.lemmas.Bool.{cases_eq, cases_lt, eqb-true, eq-eqb, ne_eqb}
+use Rattle.std.proofs.lemmas.Bool.{cases_eq, cases_lt}
 use Rattle.std.proofs.lemmas.Nat.Bits.{shr_and_one, bit_at-zero, bit_at-trailing_zeros, bit_at_set_same, bit_at_set_other, bit_at_above}
 use Rattle.std.proofs.lemmas.List.{get_or-set_same, get_or-set_other, length-set}
 use Rattle.write_buffer.specs.Bits.{mask_of, is_marked, with_mark, IsLowest, IsNextBit, IsNextMarked}
@@ -146,9 +146,9 @@ marked_cleared masks p q there is = (
       let none = unmarked_page (set masks p 0) q (ap (λ x. mask_of (set masks p 0) x) e ∙ get_or-set_same masks p 0 0 there) in
       cc,
   ⊎_elim
-  (λ (e : q / 64 ≡ p).
-  let none = unmarked_page (set masks p 0) q (ap (λ x. mask_of (set masks p 0) x) e ∙ get_or-set_same masks p 0 0 there) in
-  cc)
-  (λ (apart : q / 64 ≢ p). sym (marked_kept masks p q apart) ∙ is)
-  (cases_eq (q / 64) p),
+      (λ (e : q / 64 ≡ p).
+      let none = unmarked_page (set masks p 0) q (ap (λ x. mask_of (set masks p 0) x) e ∙ get_or-set_same masks p 0 0 there) in
+      cc)
+      (λ (apart : q / 64 ≢ p). sym (marked_kept masks p q apart) ∙ is)
+      (cases_eq (q / 64) p),
 )

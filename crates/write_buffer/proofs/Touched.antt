@@ -1,11 +1,10 @@
 -- The pages that were touched.
-use Rattle.std.proofs.Common.{◌≡◌, ◌≢◌, ℕ, zero, suc, ◌+◌, ◌-◌, ◌*◌, ◌/◌, ◌%◌, ◌<◌, ◌≤◌, Bool, true, false, ◌||◌, nat_lt, List, [], ◌∷◌, ◌++◌, length, replicate, get_or, set, Option, Some, None, refl, sym, ap, ◌∙◌, subst, arith, ⊎_elim}
-use Rattle.std.specs.List.{list_any}
+use Rattle.std.proofs.Common.{◌≡◌, ◌≢◌, ℕ, zero, suc, ◌+◌, ◌*◌, ◌/◌, ◌<◌, ◌≤◌, Bool, true, false, ◌||◌, nat_lt, List, [], ◌∷◌, ◌++◌, length, replicate, get_or, set, Some, None, refl, sym, ap, ◌∙◌, subst, arith, ⊎_elim}
 use Rattle.std.proofs.lemmas.Bool.{cases_eq, cases_lt, eq-eqb, ne_eqb, lt-ltb, ltb-true, ltb-false}
 use Rattle.std.proofs.lemmas.List.{get_or-set_same, get_or-set_other, length-set, length-append, length-replicate, get_or_append_left, get_or_at, get_or_default, ext_get_or}
-use Rattle.write_buffer.specs.Bits.{mask_of, is_marked, with_mark, IsLowest, IsNextBit, IsNextMarked}
+use Rattle.write_buffer.specs.Bits.{mask_of, is_marked, with_mark, IsLowest, IsNextMarked}
 use Rattle.write_buffer.specs.Marks.{IsMarks, IsListedIn, touched_count}
-use Rattle.write_buffer.proofs.Masks.{length-with_mark, mask_other, mask_some, marked_same, marked_other, unmarked_at, unmarked_page, unmarked_past, marked_cleared, next_later}
+use Rattle.write_buffer.proofs.Masks.{length-with_mark, mask_other, mask_some, marked_same, marked_other, unmarked_page, marked_cleared, next_later}
 
 count_more : (masks : List ℕ) (p m : ℕ) → p < length masks → mask_of masks p ≡ 0 → m ≢ 0 → touched_count (set masks p m) ≡ touched_count masks + 1
 unfolding touched_count

@@ -1,2 +1,6 @@
 pub mod Bits
 pub mod Marks
+pub mod Buffered
+pub mod Held
+pub mod Joined
+pub mod Keeping

@@ -2,4 +2,11 @@
 #![tactic(auto)]
 
 mod bits;
+pub mod buffer;
 mod marks;
+pub mod update;
+pub mod view;
+
+pub use buffer::WriteBuffer;
+pub use update::BufferView;
+pub use view::View;

@@ -1,7 +1,6 @@
-use Rattle.std.proofs.Common.{◌∙◌, subst, refl}
+use Rattle.std.proofs.Common.{subst, refl}
 use Rattle.std.specs.Io.KnownBytes.{Appends}
 use Rattle.cal_base.specs.Contents.{AppendsPrefix}
-use Rattle.csl_reader.specs.Words.{words_of}
 use Rattle.calypso_cli.proofs.Fronts.{on_ok, on_err}
 use Rattle.calypso_cli.proofs.FaultLines.{file_line}
 use Rattle.calypso_cli.proofs.ending.write_file_line.Goals as goal

@@ -1,4 +1,4 @@
-use Rattle.std.proofs.Common.{◌∙◌, subst, refl}
+use Rattle.std.proofs.Common.{◌∙◌, subst}
 use Rattle.std.specs.Io.KnownBytes.{Appends}
 use Rattle.cal_base.specs.Contents.{AppendsPrefix}
 use Rattle.csl_reader.specs.Words.{words_of}

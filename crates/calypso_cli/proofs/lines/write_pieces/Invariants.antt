@@ -1,4 +1,4 @@
-use Rattle.std.proofs.Common.{◌≡◌, ◌≤◌, length, map, drop}
+use Rattle.std.proofs.Common.{◌≤◌, map, drop}
 use Rattle.std.specs.List.{concat}
 use Rattle.calypso_cli.proofs.Fronts.{Between}
 use Rattle.calypso_cli.proofs.lines.write_pieces.Given as goal

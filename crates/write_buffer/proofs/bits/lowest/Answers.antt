@@ -1,4 +1,4 @@
-use Rattle.std.proofs.Common.{refl, arith}
+use Rattle.std.proofs.Common.{refl}
 use Rattle.write_buffer.proofs.Masks.{lowest_is}
 use Rattle.write_buffer.proofs.bits.lowest.Goals as goal
 

@@ -1,4 +1,4 @@
-use Rattle.std.proofs.Common.{◌*◌, ◌/◌, arith}
+use Rattle.std.proofs.Common.{arith}
 use Rattle.write_buffer.proofs.Masks.{next_first, none_in_first, none_more, next_later, none_past, unmarked_past}
 use Rattle.write_buffer.proofs.bits.next_set.Goals as goal
 

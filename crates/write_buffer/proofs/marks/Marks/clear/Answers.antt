@@ -1,4 +1,3 @@
-use Rattle.std.proofs.Common.{◌≡◌, List, ℕ, length, ap, ◌∙◌, arith}
 use Rattle.write_buffer.proofs.Touched.{marks_cleared}
 use Rattle.write_buffer.proofs.marks.Marks.clear.Goals as goal
 

@@ -1,4 +1,4 @@
-use Rattle.std.proofs.Common.{◌≡◌, List, ℕ, [], replicate, rules, arith}
+use Rattle.std.proofs.Common.{◌≡◌, [], replicate, rules, arith}
 use Rattle.std.specs.Int.{div_ceil}
 use Rattle.write_buffer.proofs.Touched.{no_marks}
 use Rattle.write_buffer.proofs.marks.Marks.make.Goals as goal

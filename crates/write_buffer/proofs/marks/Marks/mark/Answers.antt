@@ -1,4 +1,4 @@
-use Rattle.std.proofs.Common.{◌≡◌, ◌≢◌, ◌<◌, ◌/◌, List, ℕ, length, ap, ◌∙◌, sym, arith}
+use Rattle.std.proofs.Common.{◌≢◌, ◌<◌, ◌/◌, List, ℕ, length, ap, ◌∙◌, sym, arith}
 use Rattle.std.proofs.lemmas.List.{get_or_default}
 use Rattle.write_buffer.specs.Bits.{mask_of}
 use Rattle.write_buffer.proofs.Touched.{marks_again, marks_first, marks_room}

@@ -1,4 +1,4 @@
-use Rattle.std.proofs.Common.{◌*◌, ◌/◌, ◌%◌, ◌+◌, ◌<◌, ◌≡◌, List, ℕ, Option, Some, None, length, ap, subst, sym, ◌∙◌, arith}
+use Rattle.std.proofs.Common.{◌*◌, ◌/◌, ◌%◌, ◌+◌, ◌≡◌, List, ℕ, Some, None, ap, subst, sym, ◌∙◌, arith}
 use Rattle.std.proofs.lemmas.List.{get_or_default}
 use Rattle.write_buffer.specs.Bits.{mask_of, is_marked, IsNextBit, IsNextMarked, IsLowest}
 use Rattle.write_buffer.proofs.Masks.{next_first, none_in_first, unmarked_past}

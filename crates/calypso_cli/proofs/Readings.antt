@@ -1,0 +1,38 @@
+-- A text is read as one program, or refused in one way; bytes are one module's.
+use Rattle.std.proofs.Common.{◌≡◌, ℕ, refl, sym, ap, ◌∙◌}
+use Rattle.csl_tree.specs.declared.program.Program.{Program}
+use Rattle.csl_reader.specs.declared.refusal.Refusal.{Refusal}
+use Rattle.csl_reader.specs.Readings as reading
+use Rattle.csl_reader.specs.Readings.{Reading, IsRead}
+use Rattle.csl_reader.specs.Laws.{ReadOneWay}
+use Rattle.bytecode.specs.Laws.{OneModulePerBytes}
+use Rattle.calypso_cli.specs.Endings.{Ending, refused}
+use Rattle.calypso_cli.specs.Commands.{IsRefusedText, IsModule, IsNoModule}
+use Rattle.calypso_cli.proofs.Only.{ReadsOnce}
+
+same_program : (p q : Program) (a b : Reading) → a ≡ b → a ≡ reading.accepted p → b ≡ reading.accepted q → p ≡ q
+same_program p q a b e f g = cc
+
+not_both : (p : Program) (at : ℕ) (why : Refusal) (a b : Reading) → a ≡ b → a ≡ reading.accepted p → b ≡ reading.refused at why → ⊥
+not_both p at why a b e f g = cc
+
+-- the ending of a refusal
+abbrev ending_of : Ending → Reading → Ending
+ending_of other (reading.accepted p) = other
+ending_of other (reading.refused at why) = refused at why
+
+-- a text is read as one program, or refused with one ending
+pub programs_once : ReadOneWay → ReadsOnce (λ bytes p. IsRead bytes (reading.accepted p)) IsRefusedText
+programs_once one_way = record {
+  one = λ bytes p q r s. same_program p q (reading.accepted p) (reading.accepted q) (one_way bytes (reading.accepted p) (reading.accepted q) r s) refl refl;
+  one_ending = λ bytes e f h k. h.3 ∙ ap (ending_of e) (one_way bytes (reading.refused h.0 h.1) (reading.refused k.0 k.1) h.2 k.2) ∙ sym k.3;
+  apart = λ bytes p e r h. not_both p h.0 h.1 (reading.accepted p) (reading.refused h.0 h.1) (one_way bytes (reading.accepted p) (reading.refused h.0 h.1) r h.2) refl refl;
+}
+
+-- bytes are one module's, or none's
+pub modules_once : OneModulePerBytes → ReadsOnce IsModule IsNoModule
+modules_once one_module = record {
+  one = λ bytes m n h k. one_module m n h.0 k.0 (sym h.2 ∙ k.2);
+  one_ending = λ bytes e f h k. h.1 ∙ sym k.1;
+  apart = λ bytes m e h k. k.0 m h;
+}

@@ -1,0 +1,18 @@
+use Rattle.std.proofs.Common.{◌∙◌, subst}
+use Rattle.std.specs.Io.KnownBytes.{Appends}
+use Rattle.cal_base.specs.Contents.{AppendsPrefix}
+use Rattle.calypso_cli.proofs.Fronts.{on_ok, on_err}
+use Rattle.calypso_cli.proofs.FaultLines.{events_line}
+use Rattle.calypso_cli.proofs.ending.write_events_line.Goals as goal
+
+pub returns-clause-ok : goal.returns-clause-ok
+returns-clause-ok g c =
+    on_ok c.write_pieces.result
+    (subst (Appends (g.E.Sink.written c.args.err.now) (g.E.Sink.written c.write_pieces.new.sink)) (events_line c.args.number _ (c.as_bytes.ensures.value ∙ c.format.ensures.text)))
+    c.write_pieces.ensures.ok
+
+pub returns-clause-err : goal.returns-clause-err
+returns-clause-err g c =
+    on_err c.write_pieces.result
+    (subst (AppendsPrefix (g.E.Sink.written c.args.err.now) (g.E.Sink.written c.write_pieces.new.sink)) (events_line c.args.number _ (c.as_bytes.ensures.value ∙ c.format.ensures.text)))
+    c.write_pieces.ensures.err

@@ -1,0 +1,36 @@
+-- Which commands are served today. Words whose command is not served end as words that give no command.
+use Rattle.std.specs.Prelude.{Bool, true, false, not, ◌&&◌, ◌==◌, if◌then◌else◌, is_some, Option, None, Some}
+use Rattle.command_words.specs.Commands.{Flags, Command, check, eval, run, sim, build, exec, gen, selfrun}
+
+-- no option of a run is there, or each says what holds without it
+abbrev pub is_usual : Flags → Bool
+is_usual flags =
+    flags.workers == 4 && (flags.fuel == 1000000 && (flags.frames == 64 && (not (is_some flags.script) && (not (is_some flags.log)
+    && (not flags.report && not flags.steps)))))
+
+-- is the command served?
+abbrev pub is_served : Command → Bool
+is_served (check file) = true
+is_served (eval file) = true
+is_served (run file flags) = is_usual flags
+is_served (sim file events log) = false
+is_served (build file into) = false
+is_served (exec file flags) = false
+is_served (gen number size) = false
+is_served (selfrun number size) = false
+
+-- the command, where there is one and it is served
+abbrev pub served : Option Command → Option Command
+served None = None
+served (Some command) = if is_served command then Some command else None
+
+-- the command runs no worker threads
+abbrev pub WaitsForNobody : Command → Type 0
+WaitsForNobody (check file) = Unit {0}
+WaitsForNobody (eval file) = Unit {0}
+WaitsForNobody (run file flags) = ⊥
+WaitsForNobody (sim file events log) = Unit {0}
+WaitsForNobody (build file into) = Unit {0}
+WaitsForNobody (exec file flags) = ⊥
+WaitsForNobody (gen number size) = Unit {0}
+WaitsForNobody (selfrun number size) = ⊥

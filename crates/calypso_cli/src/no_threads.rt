@@ -1,0 +1,72 @@
+//! The commands that run no worker threads.
+
+ghost use Rattle.std.specs.Prelude.{◌≡◌, ◌≤◌, true, [], Some};
+ghost use Rattle.command_words.specs.Seen.{command_seen};
+ghost use Rattle.calypso_cli.specs.Served as serving;
+ghost use Rattle.calypso_cli.specs.Served.{served, WaitsForNobody};
+ghost use Rattle.calypso_cli.specs.Promise.{objects_of, MayUse, MayDo, Works, KeepsPromise};
+ghost use Rattle.calypso_cli.specs.Seen.{ending_seen};
+
+use crate::Ending;
+use crate::check::check_file;
+use crate::ending::conclude;
+use crate::run::run_file;
+use crate::served::is_served;
+use cal_base::{Files, Sink};
+use command_words::Command;
+use std::alloc::Global;
+
+/// Does what a served command asks for that runs no worker threads.
+fn carry_out<'a, F: Files, S: Sink>(
+    alloc: Global,
+    command: &'a Command,
+    files: &mut F,
+    out: &mut S,
+) -> Ending<'a>
+    requires waits { WaitsForNobody (command_seen command.now) }
+    requires is_served { serving.is_served (command_seen command.now) ≡ true }
+    requires may_use { MayUse F.may_load F.may_write (command_seen command.now) }
+    ensures works { Works (command_seen command.now)
+        (objects_of (F.holds files.old) (S.written out.old) (F.faults files.old) (S.faults out.old))
+        (objects_of (F.holds files.new) (S.written out.new) (F.faults files.new) (S.faults out.new))
+        (ending_seen result) [] }
+    ensures files_later { F.faults files.old ≤ F.faults files.new }
+    ensures out_later { S.faults out.old ≤ S.faults out.new }
+{
+    match command {
+        Command::Check { file } => check_file(alloc, file.as_str(), files, out),
+        Command::Eval { file } => run_file(alloc, file.as_str(), files, out),
+        _ => unreachable!(),
+    }
+}
+
+/// Does what a command asks for that runs no worker threads, so is none of `run`, `exec` and `selfrun`, and answers the status of the
+/// process. It waits for nobody, and returns.
+pub fn plain<F: Files, S: Sink, E: Sink>(
+    alloc: Global,
+    command: &Command,
+    files: &mut F,
+    out: &mut S,
+    err: &mut E,
+) -> u8
+    requires waits { WaitsForNobody (command_seen command.now) }
+    requires may_use { MayDo F.may_load F.may_write (served (Some (command_seen command.now))) }
+    ensures { KeepsPromise (served (Some (command_seen command.now)))
+        (record {
+          objects = objects_of (F.holds files.old) (S.written out.old) (F.faults files.old) (S.faults out.old);
+          err = E.written err.old;
+          err_faults = E.faults err.old;
+        })
+        (record {
+          objects = objects_of (F.holds files.new) (S.written out.new) (F.faults files.new) (S.faults out.new);
+          err = E.written err.new;
+          err_faults = E.faults err.new;
+        })
+        result }
+{
+    if !is_served(command) {
+        return conclude(Ending::NoCommand, err);
+    }
+    let ending = carry_out(alloc, command, files, out);
+    conclude(ending, err)
+}
