@@ -61,14 +61,14 @@ loads_eval file = record {
   works = λ p. run_worked (meaning p usual_fuel).ending;
 }
 
-abbrev usual : Flags
-usual = record { workers = 4; fuel = 1000000; frames = 64; script = None; log = None; report = false; steps = false }
+abbrev usual : ℕ → Flags
+usual fuel = record { workers = 4; fuel = fuel; frames = 64; script = None; log = None; report = false; steps = false }
 
 some_none : (name : List ℕ) (o : Option (List ℕ)) → o ≡ None → o ≡ Some name → ⊥
 some_none name o e f = cc
 
-loads_usual : (file : List ℕ) → LoadsOne (run file usual) file (λ p. run_of false (meaning p usual_fuel))
-loads_usual file = record {
+loads_usual : (file : List ℕ) (fuel : ℕ) → LoadsOne (run file (usual fuel)) file (λ p. run_of false (meaning p fuel))
+loads_usual file fuel = record {
   comes = λ sight outcome h. h;
   back = λ sight outcome h. h;
   loaded_by = inl refl;
@@ -78,30 +78,29 @@ loads_usual file = record {
   may_report = refl;
   program = tt;
   writes_out = tt;
-  can_work = λ p. run_can_end (run file usual) tt (meaning p usual_fuel).ending;
-  works = λ p. run_worked (meaning p usual_fuel).ending;
+  can_work = λ p. run_can_end (run file (usual fuel)) tt (meaning p fuel).ending;
+  works = λ p. run_worked (meaning p fuel).ending;
 }
 
--- options that are as usual
-usual_is : (flags : Flags) → is_usual flags ≡ true → flags ≡ usual
+-- options that are as usual, but for the fuel
+usual_is : (flags : Flags) → is_usual flags ≡ true → flags ≡ usual flags.fuel
 usual_is flags h = by flags.workers flags.fuel flags.frames flags.script flags.log flags.report flags.steps h where
-  numbers : (w f n : ℕ) → w ≡ 4 → f ≡ 1000000 → n ≡ 64
-      → record { workers = w; fuel = f; frames = n; script = None; log = None; report = false; steps = false } ≡ usual
-  numbers w f n a b c =
+  numbers : (w f n : ℕ) → w ≡ 4 → n ≡ 64
+      → record { workers = w; fuel = f; frames = n; script = None; log = None; report = false; steps = false } ≡ usual f
+  numbers w f n a c =
       ap (λ x. record { workers = x; fuel = f; frames = n; script = None; log = None; report = false; steps = false }) a
-      ∙ ap (λ x. record { workers = 4; fuel = x; frames = n; script = None; log = None; report = false; steps = false }) b
-      ∙ ap (λ x. record { workers = 4; fuel = 1000000; frames = x; script = None; log = None; report = false; steps = false }) c
+      ∙ ap (λ x. record { workers = 4; fuel = f; frames = x; script = None; log = None; report = false; steps = false }) c
 
-  by : (w f n : ℕ) (s l : Option (List ℕ)) (r t : Bool) → (w == 4 && (f == 1000000 && (n == 64 && (not (is_some s) && (not (is_some l) && (not r && not t)))))) ≡ true
-      → record { workers = w; fuel = f; frames = n; script = s; log = l; report = r; steps = t } ≡ usual
-  by w f n None None false false h = numbers w f n (grind (arith, h)) (grind (arith, h)) (grind (arith, h))
+  by : (w f n : ℕ) (s l : Option (List ℕ)) (r t : Bool) → (w == 4 && (n == 64 && (not (is_some s) && (not (is_some l) && (not r && not t))))) ≡ true
+      → record { workers = w; fuel = f; frames = n; script = s; log = l; report = r; steps = t } ≡ usual f
+  by w f n None None false false h = numbers w f n (grind (arith, h)) (grind (arith, h))
   by w f n (Some s) l r t h = absurd (grind (arith, h))
   by w f n None (Some l) r t h = absurd (grind (arith, h))
   by w f n None None true t h = absurd (grind (arith, h))
   by w f n None None false true h = absurd (grind (arith, h))
 
-pub loads_run : (file : List ℕ) (flags : Flags) → is_usual flags ≡ true → LoadsOne (run file flags) file (λ p. run_of false (meaning p usual_fuel))
-loads_run file flags h = subst (λ f. LoadsOne (run file f) file (λ p. run_of false (meaning p usual_fuel))) (sym (usual_is flags h)) (loads_usual file)
+pub loads_run : (file : List ℕ) (flags : Flags) → is_usual flags ≡ true → LoadsOne (run file flags) file (λ p. run_of false (meaning p flags.fuel))
+loads_run file flags h = subst (λ f. LoadsOne (run file f) file (λ p. run_of false (meaning p f.fuel))) (sym (usual_is flags h)) (loads_usual file flags.fuel)
 
 -- ---- nothing was done
 

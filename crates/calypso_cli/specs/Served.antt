@@ -2,11 +2,10 @@
 use Rattle.std.specs.Prelude.{Bool, true, false, not, ◌&&◌, ◌==◌, if◌then◌else◌, is_some, Option, None, Some}
 use Rattle.command_words.specs.Commands.{Flags, Command, check, eval, run, sim, build, exec, gen, selfrun}
 
--- no option of a run is there, or each says what holds without it
+-- no option of a run but its fuel is there, or each says what holds without it
 abbrev pub is_usual : Flags → Bool
 is_usual flags =
-    flags.workers == 4 && (flags.fuel == 1000000 && (flags.frames == 64 && (not (is_some flags.script) && (not (is_some flags.log)
-    && (not flags.report && not flags.steps)))))
+    flags.workers == 4 && (flags.frames == 64 && (not (is_some flags.script) && (not (is_some flags.log) && (not flags.report && not flags.steps))))
 
 -- is the command served?
 abbrev pub is_served : Command → Bool

@@ -3,6 +3,8 @@
 
 mod check;
 mod ending;
+mod eval;
+mod execute;
 pub mod laws;
 mod lines;
 mod load;
