@@ -3,12 +3,34 @@
 
 use cal_base::{HostFiles, HostSink, OpenGate};
 use calypso_cli::{calypso, out_of_memory};
+use std::env::{self, FillError};
+use std::io;
 use std::process::ExitCode;
-use std::{env, io};
+use std::rt::Env;
+
+/// The environment without the program's own name among the arguments: the name need not be text.
+struct Unnamed<'a>(&'a HostRuntime);
+
+impl Env for Unnamed<'_> {
+    fn arg(&self, i: usize, buf: &mut [u8]) -> Result<usize, FillError> {
+        match i.checked_add(1) {
+            Some(next) => self.0.arg(next, buf),
+            None => Err(FillError::NotPresent),
+        }
+    }
+
+    fn var(&self, name: &str, buf: &mut [u8]) -> Result<usize, FillError> {
+        self.0.var(name, buf)
+    }
+
+    fn var_at(&self, i: usize, buf: &mut [u8]) -> Result<usize, FillError> {
+        self.0.var_at(i, buf)
+    }
+}
 
 // The words of the command line, without the program's own name.
 fn words(rt: &HostRuntime) -> io::Result<Vec<String>> {
-    let words = env::args(rt)?.skip(1).collect(rt.alloc())?;
+    let words = env::args(&(Unnamed(rt), rt.alloc()))?.collect(rt.alloc())?;
     Ok(words)
 }
 

@@ -1,18 +1,16 @@
 -- What each event of main leaves.
-use Rattle.std.proofs.Common.{◌≡◌, ℕ, suc, ◌+◌, ◌*◌, ◌<◌, ◌≤◌, Bool, true, false, List, [], ◌∷◌, ◌++◌, length, Option, Some, None, Result, Ok, Err, refl, sym, ap, subst, ◌∙◌, arith, append-nil}
+use Rattle.std.proofs.Common.{◌≡◌, ℕ, suc, ◌+◌, Bool, false, List, [], ◌∷◌, ◌++◌, length, Option, Some, None, Result, Ok, Err, sym, ap, subst, ◌∙◌, arith, append-nil}
 use Rattle.std.specs.Io.KnownBytes.{Appends}
 use Rattle.std.proofs.KnownBytes.{Appends-nil, Appends-trans}
 use Rattle.std.proofs.lemmas.List.{length-map}
-use Rattle.cal_terms.specs.declared.kinds.WordKind.{WordKind}
 use Rattle.cal_base.specs.declared.ends.RunEnd.{RunEnd}
-use Rattle.cal_base.specs.declared.ends.RunEnd.TheVariants.{StepFailed}
 use Rattle.cal_base.specs.declared.ends.StepFault.{StepFault}
 use Rattle.cal_base.specs.declared.step.TheConstants.{CALLER}
 use Rattle.cal_base.specs.declared.step.WorkerTally.{WorkerTally}
 use Rattle.cal_base.specs.Contents.{AppendsPrefix}
 use Rattle.cal_base.specs.Memory.{Memory, kinds_of}
-use Rattle.cal_base.specs.History.{History, claims_by, is_caller}
-use Rattle.cal_base.specs.Claims.{StepJob, size_of, merged, meant}
+use Rattle.cal_base.specs.History.{History}
+use Rattle.cal_base.specs.Claims.{StepJob, merged, meant}
 use Rattle.cal_base.specs.Main.{Main, Ends, Shows, Opens, Event, Line, meaning_of, steps_of, step_event, IsNumbered}
 use Rattle.cal_base.specs.Text.{text_of}
 use Rattle.bytecode.specs.declared.module.Module.{Module}
@@ -21,7 +19,6 @@ use Rattle.machine_meaning.specs.Runs.{main_beginning}
 use Rattle.machine_meaning.specs.Meaning.{main_of, machine_main, module_memory}
 use Rattle.routine_vm.specs.Held.{Held, main_state, MayGoOn}
 use Rattle.step_laws.proofs.StepLaws.{merged_is_meant}
-use Rattle.event_world.specs.World.{ClosedStep}
 use Rattle.event_world.specs.Law.{IsWhole}
 use Rattle.engine_laws.specs.Steps.{TakesUnits, step_job}
 use Rattle.engine_laws.specs.Ran.{RunsTo, Here, Shown, Closed, RunsThrough, Ended, Failed, callers_claims}
@@ -30,11 +27,11 @@ use Rattle.engine_laws.proofs.Units.{steps_are_numbered, steps_take_units}
 use Rattle.worker_gate.specs.Working.{WorkerState, MayWork, first_tally, with_claims}
 use Rattle.calypso_engine.specs.declared.event.Standing.{Standing}
 use Rattle.calypso_engine.specs.declared.error.RunError.{RunError}
-use Rattle.calypso_engine.specs.Steps.{Leaves, StepRan}
+use Rattle.calypso_engine.specs.Steps.{StepRan}
 use Rattle.calypso_engine.specs.Running.{rest_of, IsReady, WentOn, CameTo, Goes}
 use Rattle.calypso_engine.specs.Whole.{ClosesSteps}
 use Rattle.calypso_engine.proofs.Runs.{runs_then, through_then, claims_then, claims_none, claims_one, tally_none, tally_then}
-use Rattle.calypso_engine.proofs.Texts.{text_then, prefix_none, prefix_more, prefix_then}
+use Rattle.calypso_engine.proofs.Texts.{text_then, prefix_more, prefix_then}
 
 -- ---- the caller may still work where the kinds of the words are the same
 

@@ -1,9 +1,9 @@
 -- Fewer steps of the machine are ahead behind each event of main.
-use Rattle.std.proofs.Common.{◌≡◌, ℕ, zero, suc, ◌+◌, ◌<◌, ◌≤◌, false, List, [], Option, Some, None, refl, sym, subst, arith}
+use Rattle.std.proofs.Common.{◌≡◌, ℕ, zero, suc, ◌+◌, ◌<◌, ◌≤◌, false, [], Option, Some, None, refl, sym, subst, arith}
 use Rattle.bytecode.specs.declared.module.Module.{Module}
 use Rattle.code_verify.specs.Rules.{IsVerified}
 use Rattle.machine_meaning.specs.Machine.{State, Next, On, Prints, Opens, Ends, Traps, next}
-use Rattle.machine_meaning.specs.Runs.{Run, Comes, Goes, runs, goes_on, most_steps}
+use Rattle.machine_meaning.specs.Runs.{Comes, runs, goes_on, most_steps}
 use Rattle.machine_meaning.specs.Fitting.{Fits}
 use Rattle.cal_base.specs.Memory.{Memory}
 use Rattle.routine_vm.specs.Held.{Held, main_state, MayGoOn}

@@ -1,5 +1,5 @@
 -- What the caller leaves of a step.
-use Rattle.std.specs.Prelude.{◌≡◌, ℕ, ◌+◌, ◌≤◌, Option, Some, None, Result, Ok, Err}
+use Rattle.std.specs.Prelude.{◌≡◌, ℕ, ◌+◌, ◌≤◌, Option, Some, None, Ok, Err}
 use Rattle.cal_base.specs.declared.ends.RunEnd.{RunEnd}
 use Rattle.cal_base.specs.declared.ends.RunEnd.TheVariants.{StepFailed}
 use Rattle.cal_base.specs.declared.ends.StepFault.{StepFault}

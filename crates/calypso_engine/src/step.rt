@@ -41,7 +41,7 @@ fn named_step<N: JobName>(
 {
     let mut core: Core<N> = Core::make(alloc, step, image, n)?;
     let job: Job<'_, N> = Job::of(step, image, code, first_block, widths, n, fuel);
-    finish(alloc, worker, &job, &mut core)?;
+    finish(worker, &job, &mut core);
     Ok(core.close(image))
 }
 

@@ -6,6 +6,8 @@ mod calls;
 #[cfg(test)]
 mod checks;
 #[cfg(test)]
+mod commands;
+#[cfg(test)]
 mod fuel;
 #[cfg(test)]
 mod refusals;
@@ -17,3 +19,5 @@ mod sizes;
 mod tokens;
 #[cfg(test)]
 mod trees;
+#[cfg(test)]
+mod words;

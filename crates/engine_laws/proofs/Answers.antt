@@ -1,13 +1,9 @@
 -- The answers of a step, by its blocks.
-use Rattle.std.proofs.Common.{◌≡◌, ℕ, zero, suc, ◌+◌, ◌<◌, ◌≤◌, List, [], ◌∷◌, ◌++◌, length, map, take, sum, Option, Some, None, refl, sym, ap, subst, ◌∙◌, arith, length-append, zero-add}
+use Rattle.std.proofs.Common.{◌≡◌, ℕ, zero, suc, ◌+◌, ◌<◌, List, [], ◌∷◌, ◌++◌, length, map, take, sum, Some, refl, ap, ◌∙◌, arith, length-append, zero-add}
 use Rattle.std.specs.Prelude.{slice_get}
 use Rattle.std.specs.List.{range_with_len}
 use Rattle.std.proofs.lemmas.List.Sums.{sum_by-cons}
 use Rattle.std.proofs.lemmas.List.FromFn.{length-map-range_with_len}
-use Rattle.cal_base.specs.Memory.{Memory}
-use Rattle.cal_base.specs.declared.answer.Answer.{Answer}
-use Rattle.bytecode.specs.declared.module.Code.{Code}
-use Rattle.bytecode.specs.declared.module.Module.{Module}
 use Rattle.machine_meaning.specs.Meaning.{answers, answered, routine_outcome}
 use Rattle.engine_laws.specs.Steps.{AnswersAreAll, AnswersGoByBlocks}
 

@@ -1,18 +1,15 @@
 -- What a run shows and closes.
-use Rattle.std.proofs.Common.{◌≡◌, ℕ, suc, ◌+◌, ◌<◌, ◌≤◌, List, [], ◌∷◌, ◌++◌, length, Result, Ok, Err, refl, sym, ap, subst, ◌∙◌, arith, append_assoc, append-nil}
+use Rattle.std.proofs.Common.{◌≡◌, suc, ◌+◌, List, [], ◌∷◌, ◌++◌, length, Result, Ok, Err, refl, sym, ap, subst, ◌∙◌, arith, append_assoc, append-nil}
 use Rattle.std.proofs.lemmas.List.{length_push}
-use Rattle.cal_base.specs.declared.ends.RunEnd.{RunEnd}
-use Rattle.cal_base.specs.declared.ends.RunEnd.TheVariants.{StepFailed}
 use Rattle.cal_base.specs.declared.ends.StepFault.{StepFault}
 use Rattle.cal_base.specs.Memory.{Memory}
 use Rattle.cal_base.specs.History.{History}
 use Rattle.cal_base.specs.Claims.{StepJob, merged, meant}
-use Rattle.cal_base.specs.Main.{Main, Ends, Shows, Opens, Event, Line, step_event, going_on, meaning_of, steps_behind, steps_of, IsNumbered}
+use Rattle.cal_base.specs.Main.{Main, Ends, Shows, Opens, Line, step_event, going_on, meaning_of, steps_behind, steps_of, IsNumbered}
 use Rattle.step_laws.proofs.StepLaws.{merged_is_meant}
 use Rattle.event_world.specs.World.{ClosedStep}
 use Rattle.event_world.specs.Law.{Each, IsWhole, jobs_in}
-use Rattle.engine_laws.specs.Steps.{TakesUnits}
-use Rattle.engine_laws.specs.Ran.{RunsTo, Here, Shown, Closed, RunsThrough, Ended, Failed, IsPart, IsMeantRun, RunsAreMeant, PartsAreMeant, ClosedStepsAreCounted}
+use Rattle.engine_laws.specs.Ran.{Here, Shown, Closed, Ended, Failed, RunsAreMeant, PartsAreMeant, ClosedStepsAreCounted}
 
 each_push : {A : Type 0} (P : A → Type 0) (xs : List A) (x : A) → Each P xs → P x → Each P (xs ++ x ∷ [])
 each_push P [] x all here = (here, tt)

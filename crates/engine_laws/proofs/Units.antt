@@ -1,5 +1,5 @@
 -- Main opens a step for a unit of fuel, and with few routines.
-use Rattle.std.proofs.Common.{◌≡◌, ℕ, zero, suc, ◌+◌, ◌-◌, ◌<◌, ◌≤◌, Bool, true, false, cond, List, [], ◌∷◌, ◌++◌, length, map, take, reverse, sum, Option, Some, None, Result, Ok, Err, refl, sym, ap, subst, ◌∙◌, arith, length-append}
+use Rattle.std.proofs.Common.{◌≡◌, ℕ, zero, suc, ◌+◌, ◌-◌, ◌<◌, ◌≤◌, Bool, true, false, cond, List, [], ◌∷◌, length, map, take, reverse, sum, Option, Some, None, Result, Ok, Err, refl, sym, subst, arith, length-append}
 use Rattle.std.specs.Prelude.{ℤ, ◌+ℤ◌, ◌-ℤ◌, ◌*ℤ◌, neg_ℤ, int_lt, int_le, ◌==◌, nat_lt, not, slice_get, slice_set}
 use Rattle.std.specs.List.{range_with_len}
 use Rattle.std.proofs.Math.Dec.{leb}
@@ -27,7 +27,7 @@ use Rattle.bytecode.specs.declared.module.Code.{Code}
 use Rattle.bytecode.specs.declared.module.Module.{Module}
 use Rattle.machine_meaning.specs.Machine.{◌>>=◌, kind_of, Call, State, Next, On, Prints, Opens, Ends, Traps, number, truth, numbers, equal, split, many_numbers, on_with, at_target, traps, pushes, leaves_store, writes, in_routine, may_use, using, item_at, at_item, spends, begun, most_callers, enters, calls, given_back, leaves, stores, drops, pieces, prints, opens, opens_blocks, reads_item, writes_item, step, next}
 use Rattle.machine_meaning.specs.Runs.{most_steps, main_beginning}
-use Rattle.machine_meaning.specs.Meaning.{answers, answered, routine_outcome, blocks_of, module_memory, main_at, main_from, main_of, machine_main}
+use Rattle.machine_meaning.specs.Meaning.{answers, answered, routine_outcome, blocks_of, module_memory, main_at, main_from}
 use Rattle.engine_laws.specs.Steps.{TakesUnits, StepsAreNumbered, StepsTakeUnits}
 
 -- a step of the machine leaves no more fuel than this, and less behind a parallel step, which has few routines

@@ -1,5 +1,5 @@
 -- The steps that main of a module opens, and the answers of their routines.
-use Rattle.std.specs.Prelude.{◌≡◌, ℕ, suc, ◌+◌, ◌<◌, ◌≤◌, List, length, take, sum, Some, slice_get}
+use Rattle.std.specs.Prelude.{◌≡◌, ℕ, suc, ◌+◌, ◌<◌, List, length, take, sum, Some, slice_get}
 use Rattle.cal_base.specs.Memory.{Memory}
 use Rattle.cal_base.specs.Claims.{StepJob}
 use Rattle.cal_base.specs.Main.{Main, Ends, Shows, Opens, IsNumbered}

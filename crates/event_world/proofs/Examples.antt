@@ -381,3 +381,27 @@ late_answer_counts_for_nothing = (refl, refl, refl)
 pub stopped_worker_delivers : rows.StoppedWorkerDelivers
 unfolding after least_faulty is_faulty shared_word least_below lightest_below fault_of merged_memory
 stopped_worker_delivers = (refl, refl, refl)
+
+pub stopped_stays_stopped : rows.StoppedStaysStopped
+unfolding after least_faulty is_faulty shared_word least_below lightest_below fault_of merged_memory
+stopped_stays_stopped = (refl, refl, refl)
+
+pub finished_is_idle : rows.FinishedIsIdle
+unfolding after least_faulty is_faulty shared_word least_below lightest_below fault_of merged_memory
+finished_is_idle = (refl, refl, refl)
+
+pub spent_is_idle : rows.SpentIsIdle
+unfolding after least_faulty is_faulty shared_word least_below lightest_below fault_of merged_memory
+spent_is_idle = (refl, refl, refl)
+
+pub empty_step_is_passed : rows.EmptyStepIsPassed
+unfolding after least_faulty is_faulty shared_word least_below lightest_below fault_of merged_memory
+empty_step_is_passed = (refl, refl, refl)
+
+pub full_is_not_entered : rows.FullIsNotEntered
+unfolding after least_faulty is_faulty shared_word least_below lightest_below fault_of merged_memory
+full_is_not_entered = (refl, refl, refl)
+
+pub unasked_fill_a_step : rows.UnaskedFillAStep
+unfolding after least_faulty is_faulty shared_word least_below lightest_below fault_of merged_memory
+unasked_fill_a_step = (refl, refl, refl, refl)

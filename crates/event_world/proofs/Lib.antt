@@ -1,4 +1,3 @@
-pub mod Counting
 pub mod Caller
 pub mod Turns
 pub mod Meant

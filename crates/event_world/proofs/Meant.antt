@@ -11,14 +11,11 @@ use Rattle.step_laws.specs.Laws.{IsRightClaim}
 use Rattle.step_laws.proofs.StepLaws.{claims_are_right, merged_is_meant}
 use Rattle.event_world.specs.declared.event.Event.{Event}
 use Rattle.cal_base.specs.Main.{Main, Ends, Shows, Opens, Line, step_event, Meaning, going_on, meaning_of, steps_behind, steps_of, IsNumbered}
-use Rattle.event_world.specs.World.{Mode, Idle, Busy, Stopped, Delivery, ClosedStep, Phase, Open, Over, Run, is_all_done, is_complete, closing, run_on, settled, State, freed, Turn, after_turn, apply_in, apply, apply_all, first_state, completed, finish_main, finish_in}
+use Rattle.event_world.specs.World.{Mode, Idle, Busy, Stopped, Delivery, Phase, Open, Over, Run, is_all_done, is_complete, closing, run_on, settled, State, freed, Turn, after_turn, apply_in, apply, apply_all, first_state, completed, finish_main, finish_in}
 use Rattle.event_world.specs.Law.{Each, jobs_in, IsOfWorker, IsWhole, WorldIsMeant}
-use Rattle.event_world.proofs.Caller.{completed_is_whole}
-use Rattle.event_world.proofs.Turns.{each_append, IsBusyBelow, DeliveryFits, TurnFits, turn_fits}
-
-jobs_in-append : (xs ys : List ClosedStep) → jobs_in (xs ++ ys) ≡ jobs_in xs ++ jobs_in ys
-jobs_in-append [] ys = refl
-jobs_in-append (x ∷ xs) ys = ap (λ more. x.job ∷ more) (jobs_in-append xs ys)
+use Rattle.step_laws.proofs.Caller.{completed_is_whole}
+use Rattle.step_laws.proofs.Closed.{each_append, jobs_in-append}
+use Rattle.event_world.proofs.Turns.{IsBusyBelow, DeliveryFits, TurnFits, turn_fits}
 
 -- what is still to come
 abbrev rest_of : Phase → Meaning

@@ -1,36 +1,24 @@
 -- Each event in an open step keeps the history legal.
-use Rattle.std.proofs.Common.{◌≡◌, ◌≢◌, ℕ, zero, suc, ◌+◌, ◌-◌, ◌<◌, ◌≤◌, true, false, cond, ◌&&◌, eqb, List, [], ◌∷◌, ◌++◌, refl, ap, subst, arith, Option, Some, None}
+use Rattle.std.proofs.Common.{◌≡◌, ◌≢◌, ℕ, ◌-◌, ◌<◌, ◌≤◌, true, false, cond, eqb, [], ◌∷◌, ◌++◌, refl, subst, arith, Option, Some, None}
 use Rattle.std.specs.Prelude.{slice_get, nat_lt}
-use Rattle.std.proofs.lemmas.Bool.{ne_eqb}
 use Rattle.cal_base.specs.declared.step.TheConstants.{CALLER}
 use Rattle.cal_base.specs.declared.step.Verdict.{Verdict}
 use Rattle.cal_base.specs.declared.step.Verdict.TheVariants.{First, Again, Stale, Unasked, Full}
 use Rattle.cal_base.specs.declared.step.Claimed.{Claimed}
 use Rattle.cal_base.specs.declared.step.Claimed.TheVariants.{Work, AllDone, Spent}
 use Rattle.cal_base.specs.declared.step.Entry.TheVariants.{Claim, Arrive}
-use Rattle.cal_base.specs.History.{History, is_caller, anyone, is_claim, is_arrival, claims_by, arrivals_by}
 use Rattle.cal_base.specs.Claims.{StepJob, size_of, claimed, verdict_on, IsLegal, MayClaim, MayArrive}
 use Rattle.step_laws.specs.Laws.{IsRightClaim}
-use Rattle.step_laws.proofs.Histories.{count_by-push, legal_push}
-use Rattle.step_laws.proofs.StepLaws.{claims_are_right, one_if}
+use Rattle.step_laws.proofs.Histories.{legal_push}
+use Rattle.step_laws.proofs.StepLaws.{claims_are_right}
 use Rattle.event_world.specs.declared.event.Event.{Event}
 use Rattle.event_world.specs.declared.event.Event.TheVariants as event
 use Rattle.event_world.specs.World.{Mode, Idle, Busy, Stopped, Delivery, Turn, with_mode, claim_turn, claim_by, finish_by, arrive_turn, arrive_of, delivery_at, turn_of}
-use Rattle.event_world.specs.Law.{Each, NoCaller, IsOfWorker}
-
-pub each_push : {A : Type 0} (P : A → Type 0) (xs : List A) (x : A) → Each P xs → P x → Each P (xs ++ x ∷ [])
-each_push P [] x all here = (here, tt)
-each_push P (y ∷ xs) x all here = (all.0, each_push P xs x all.1 here)
-
-pub each_append : {A : Type 0} (P : A → Type 0) (xs ys : List A) → Each P xs → Each P ys → Each P (xs ++ ys)
-each_append P [] ys all more = more
-each_append P (x ∷ xs) ys all more = (all.0, each_append P xs ys all.1 more)
-
-each_get : {A : Type 0} (P : A → Type 0) (xs : List A) (i : ℕ) (x : A) → Each P xs → slice_get xs i ≡ Some x → P x
-each_get P [] zero x all at = absurd (cc)
-each_get P [] (suc i) x all at = absurd (cc)
-each_get P (y ∷ xs) zero x all at = let same : y ≡ x = cc in subst P same all.0
-each_get P (y ∷ xs) (suc i) x all at = each_get P xs i x all.1 at
+use Rattle.step_laws.specs.Caller.{NoCaller}
+use Rattle.step_laws.specs.Closed.{Each}
+use Rattle.step_laws.proofs.Caller.{alone_claim, alone_arrive}
+use Rattle.step_laws.proofs.Closed.{each_push, each_get}
+use Rattle.event_world.specs.Law.{IsOfWorker}
 
 -- what a busy worker is at is a number of the step
 abbrev pub IsBusyBelow : ℕ → Mode → Type 0
@@ -52,27 +40,6 @@ pub record TurnFits (job : StepJob) (turn : Turn) : Type 0 where
 
 mode_fits : (n : ℕ) (modes : ℕ → Mode) (who : ℕ) (mode : Mode) → ((w : ℕ) → IsBusyBelow n (modes w)) → IsBusyBelow n mode → (w : ℕ) → IsBusyBelow n (with_mode modes who mode w)
 mode_fits n modes who mode all here w = elim (eqb w who) as (λ b. IsBusyBelow n (cond b mode (modes w))) [ true ↦ here | false ↦ all w ]
-
-not_caller : (who : ℕ) → who < CALLER → is_caller who ≡ false
-not_caller who worker = ne_eqb who CALLER (λ e. omega arith)
-
-alone_claim : (history : History) (who k : ℕ) → who < CALLER → NoCaller history → NoCaller (history ++ Claim who k ∷ [])
-alone_claim history who k worker alone = record {
-  claims =
-      let more : claims_by is_caller (history ++ Claim who k ∷ []) ≡ claims_by is_caller history + one_if (is_caller who && true) = count_by-push (is_claim is_caller anyone) history (Claim who k) in
-      let nought : one_if (is_caller who && true) ≡ 0 = ap (λ b. one_if (b && true)) (not_caller who worker) in
-      omega (arith, more, nought, alone.claims);
-  arrivals = let more : arrivals_by is_caller (history ++ Claim who k ∷ []) ≡ arrivals_by is_caller history + 0 = count_by-push (is_arrival is_caller) history (Claim who k) in omega (arith, more, alone.arrivals);
-}
-
-alone_arrive : (history : History) (who step k : ℕ) (verdict : Verdict) → who < CALLER → NoCaller history → NoCaller (history ++ Arrive who step k verdict ∷ [])
-alone_arrive history who step k verdict worker alone = record {
-  claims = let more : claims_by is_caller (history ++ Arrive who step k verdict ∷ []) ≡ claims_by is_caller history + 0 = count_by-push (is_claim is_caller anyone) history (Arrive who step k verdict) in omega (arith, more, alone.claims);
-  arrivals =
-      let more : arrivals_by is_caller (history ++ Arrive who step k verdict ∷ []) ≡ arrivals_by is_caller history + one_if (is_caller who) = count_by-push (is_arrival is_caller) history (Arrive who step k verdict) in
-      let nought : one_if (is_caller who) ≡ 0 = ap one_if (not_caller who worker) in
-      omega (arith, more, nought, alone.arrivals);
-}
 
 module _ (job : StepJob) (small : size_of job ≤ 65536) (turn : Turn) (fits : TurnFits job turn) where
   claimed_fits : (who : ℕ) → who < CALLER → (c : Claimed) → claimed job turn.history who ≡ c → TurnFits job (claim_turn who c turn)

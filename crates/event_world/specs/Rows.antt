@@ -1,5 +1,5 @@
 -- Worked examples of worlds: what workers do, by hand, and what becomes of it.
-use Rattle.std.specs.Prelude.{◌≡◌, ℕ, List, [], ◌∷◌, map, pos}
+use Rattle.std.specs.Prelude.{◌≡◌, ℕ, zero, suc, List, [], ◌∷◌, ◌++◌, map, replicate, pos}
 use Rattle.std.specs.FinMap.{empty}
 use Rattle.std.specs.Ordering.{nat_cmp}
 use Rattle.cal_base.specs.declared.ends.Cause.TheVariants.{Overflow, OutOfRange}
@@ -7,16 +7,18 @@ use Rattle.cal_base.specs.declared.ends.RunEnd.{RunEnd}
 use Rattle.cal_base.specs.declared.ends.RunEnd.TheVariants.{Done, StepFailed}
 use Rattle.cal_base.specs.declared.ends.StepFault.TheVariants.{Trap, Conflict}
 use Rattle.cal_base.specs.declared.step.TheConstants.{CALLER}
-use Rattle.cal_base.specs.declared.step.Verdict.TheVariants.{First, Again, Stale}
+use Rattle.cal_base.specs.declared.step.Verdict.TheVariants.{First, Again, Stale, Unasked, Full}
+use Rattle.cal_base.specs.declared.step.Claimed.TheVariants.{AllDone}
 use Rattle.cal_base.specs.declared.step.Entry.TheVariants.{Claim, Arrive}
 use Rattle.cal_base.specs.declared.answer.Answer.TheVariants.{Update, Fault}
 use Rattle.cal_base.specs.Memory.{Memory, value_at}
 use Rattle.cal_base.specs.History.{History}
-use Rattle.cal_base.specs.Claims.{StepJob}
+use Rattle.cal_base.specs.Claims.{StepJob, claimed, verdict_on}
 use Rattle.cal_base.specs.Main.{Main, Ends, Shows, Opens, Event as Shown, Line, Step}
 use Rattle.step_laws.specs.Rows.{ordinary, one}
 use Rattle.event_world.specs.declared.event.Event.{Event}
 use Rattle.event_world.specs.declared.event.Event.TheVariants as event
+use Rattle.step_laws.specs.Caller.{completed}
 use Rattle.event_world.specs.World.{Run, Over, world}
 
 -- the histories of the closed steps, in order
@@ -201,3 +203,92 @@ StoppedWorkerDelivers =
     ∷ []
     )
     (Done 2)
+
+-- ---- what a worker is after its turn
+
+-- one step of one routine that writes nothing
+abbrev pub one_quiet_step : Main
+one_quiet_step = Opens (quiet 1) (λ memory. Ends (Done 1))
+
+-- a worker that stopped claims in the next step: it is stopped still
+abbrev pub StoppedStaysStopped : Type 0
+StoppedStaysStopped =
+    Becomes two_quiet_steps
+    (event.Claim 0 ∷ event.Stop 0 ∷ event.Claim 1 ∷ event.Finish 1 ∷ event.Arrive 1 ∷ event.Claim 0 ∷ event.Finish 0 ∷ event.Arrive 2 ∷ [])
+    (Step 1 1 [] [] ∷ Step 2 1 [] [] ∷ [])
+    ((Claim 0 0 ∷ Claim 1 0 ∷ Arrive 1 1 0 First ∷ []) ∷ (Claim CALLER 0 ∷ Arrive CALLER 2 0 First ∷ []) ∷ [])
+    (Done 2)
+
+-- a worker that finished is neither busy nor retired: it finishes nothing more, and claims again
+abbrev pub FinishedIsIdle : Type 0
+FinishedIsIdle =
+    Becomes one_quiet_step
+    (event.Claim 0 ∷ event.Finish 0 ∷ event.Finish 0 ∷ event.Claim 0 ∷ event.Arrive 2 ∷ [])
+    (Step 1 1 [] [] ∷ [])
+    ((Claim 0 0 ∷ Claim 0 0 ∷ Claim CALLER 0 ∷ Arrive CALLER 1 0 First ∷ []) ∷ [])
+    (Done 1)
+
+-- a worker claims and finishes so many times, and then this happens
+abbrev pub working : ℕ → List Event → List Event
+working zero events = events
+working (suc n) events = event.Claim 0 ∷ event.Finish 0 ∷ working n events
+
+-- the 36th claim of a step of one routine is spent, which does not stop its worker: it claims in the next step
+abbrev pub SpentIsIdle : Type 0
+SpentIsIdle =
+    Becomes two_quiet_steps (working 35 (event.Claim 0 ∷ event.Arrive 1 ∷ event.Claim 0 ∷ []))
+    (Step 1 1 [] [] ∷ Step 2 1 [] [] ∷ [])
+    (
+    (replicate 35 (Claim 0 0) ++ Arrive 0 1 0 First ∷ [])
+    ∷ (Claim 0 0 ∷ Claim CALLER 0 ∷ Arrive CALLER 2 0 First ∷ [])
+    ∷ []
+    )
+    (Done 2)
+
+-- ---- a step of no routines
+
+-- a step of one routine, one of none, and one of one
+abbrev pub empty_between : Main
+empty_between =
+    Opens (quiet 1)
+    (λ memory. Opens (record { number = 2; opening = []; answers = [] }) (λ later. Opens (quiet 3) (λ last. Ends (Done 3))))
+
+-- a step of no routines waits for nothing: what is delivered behind it is of an older step
+abbrev pub EmptyStepIsPassed : Type 0
+EmptyStepIsPassed =
+    Becomes empty_between
+    (event.Claim 0 ∷ event.Claim 1 ∷ event.Finish 0 ∷ event.Finish 1 ∷ event.Arrive 1 ∷ event.Arrive 2 ∷ [])
+    (Step 1 1 [] [] ∷ Step 2 0 [] [] ∷ Step 3 1 [] [] ∷ [])
+    (
+    (Claim 0 0 ∷ Claim 1 0 ∷ Arrive 0 1 0 First ∷ [])
+    ∷ []
+    ∷ (Arrive 1 1 0 Stale ∷ Claim CALLER 0 ∷ Arrive CALLER 3 0 First ∷ [])
+    ∷ []
+    )
+    (Done 3)
+
+-- ---- a step that is full
+
+-- an older answer arrives 103 times in a step of one routine: the last time it is not entered, and the caller completes the step
+abbrev pub FullIsNotEntered : Type 0
+FullIsNotEntered =
+    Becomes two_quiet_steps (event.Claim 0 ∷ event.Finish 0 ∷ event.Arrive 1 ∷ replicate 103 (event.Arrive 1))
+    (Step 1 1 [] [] ∷ Step 2 1 [] [] ∷ [])
+    (
+    (Claim 0 0 ∷ Arrive 0 1 0 First ∷ [])
+    ∷ (replicate 102 (Arrive 0 1 0 Stale) ++ Claim CALLER 0 ∷ Arrive CALLER 2 0 First ∷ [])
+    ∷ []
+    )
+    (Done 2)
+
+-- an answer that nobody asked for arrived so many times in a step of one routine
+abbrev pub unasked : ℕ → History
+unasked n = replicate n (Arrive 0 1 0 Unasked)
+
+-- of 103 such arrivals 102 are entered, the last is full, and the caller completes the step
+abbrev pub UnaskedFillAStep : Type 0
+UnaskedFillAStep =
+    verdict_on (quiet 1) (unasked 101) 0 1 0 ≡ Unasked
+    × verdict_on (quiet 1) (unasked 102) 0 1 0 ≡ Full
+    × completed (quiet 1) (unasked 102) ≡ unasked 102 ++ Claim CALLER 0 ∷ Arrive CALLER 1 0 First ∷ []
+    × claimed (quiet 1) (unasked 102 ++ Claim CALLER 0 ∷ Arrive CALLER 1 0 First ∷ []) CALLER ≡ AllDone

@@ -1,17 +1,18 @@
 -- What a program does where its workers do what a list of events says, and the caller does the rest.
-use Rattle.std.specs.Prelude.{ℕ, zero, suc, ◌-◌, ◌==◌, nat_lt, Bool, true, false, if◌then◌else◌, List, [], ◌∷◌, ◌++◌, Option, Some, None, Result, Ok, Err, slice_get}
+use Rattle.std.specs.Prelude.{ℕ, ◌-◌, ◌==◌, nat_lt, Bool, true, false, if◌then◌else◌, List, [], ◌∷◌, ◌++◌, Option, Some, None, Result, Ok, Err, slice_get}
 use Rattle.cal_base.specs.declared.step.TheConstants.{CALLER}
 use Rattle.cal_base.specs.declared.step.Verdict.{Verdict}
-use Rattle.cal_base.specs.declared.step.Verdict.TheVariants.{First, Again, Stale, Unasked, Full}
 use Rattle.cal_base.specs.declared.step.Claimed.{Claimed}
 use Rattle.cal_base.specs.declared.step.Claimed.TheVariants.{Work, AllDone, Spent}
-use Rattle.cal_base.specs.declared.step.Entry.TheVariants.{Claim, Arrive}
 use Rattle.cal_base.specs.declared.ends.RunEnd.{RunEnd}
 use Rattle.cal_base.specs.declared.ends.RunEnd.TheVariants.{StepFailed}
 use Rattle.cal_base.specs.declared.ends.StepFault.{StepFault}
 use Rattle.cal_base.specs.Memory.{Memory}
 use Rattle.cal_base.specs.History.{History}
-use Rattle.cal_base.specs.Claims.{StepJob, size_of, claimed, verdict_on, merged}
+use Rattle.cal_base.specs.Claims.{StepJob, claimed, verdict_on, merged}
+pub use Rattle.step_laws.specs.Turns.{after_claim, after_arrival}
+pub use Rattle.step_laws.specs.Caller.{pair_of, pairs_by, with_pairs, completed}
+pub use Rattle.step_laws.specs.Closed.{ClosedStep}
 use Rattle.event_world.specs.declared.event.Event.{Event}
 use Rattle.event_world.specs.declared.event.Event.TheVariants as event
 use Rattle.cal_base.specs.Main.{Main, Ends, Shows, Opens, Event as Shown, Line, step_event}
@@ -27,11 +28,6 @@ pub record Delivery : Type 0 where
   pub who : ℕ
   pub step : ℕ
   pub k : ℕ
-
--- a step that was closed, with its whole history
-pub record ClosedStep : Type 0 where
-  pub job : StepJob
-  pub history : History
 
 -- where main stands: in an open step, or at its end
 pub data Phase : Type 0 where
@@ -107,11 +103,15 @@ pub record Turn : Type 0 where
   pub modes : ℕ → Mode
   pub deliveries : List Delivery
 
+-- the modes after a worker's claim got this answer: work makes it busy
+abbrev pub modes_after : (ℕ → Mode) → ℕ → Claimed → ℕ → Mode
+modes_after modes who (Work k) = with_mode modes who (Busy k)
+modes_after modes who AllDone = modes
+modes_after modes who Spent = modes
+
 -- a claim got this answer: work is entered and makes the worker busy, and nothing else changes
 abbrev pub claim_turn : ℕ → Claimed → Turn → Turn
-claim_turn who (Work k) turn = record turn { history = turn.history ++ Claim who k ∷ []; modes = with_mode turn.modes who (Busy k) }
-claim_turn who AllDone turn = turn
-claim_turn who Spent turn = turn
+claim_turn who answer turn = record turn { history = after_claim turn.history who answer; modes = modes_after turn.modes who answer }
 
 -- a worker that is neither busy nor stopped claims
 abbrev pub claim_by : StepJob → ℕ → Mode → Turn → Turn
@@ -128,11 +128,7 @@ finish_by job who Stopped turn = turn
 
 -- a delivery got this verdict: it is entered, unless it is full
 abbrev pub arrive_turn : Delivery → Verdict → Turn → Turn
-arrive_turn d First turn = record turn { history = turn.history ++ Arrive d.who d.step d.k First ∷ [] }
-arrive_turn d Again turn = record turn { history = turn.history ++ Arrive d.who d.step d.k Again ∷ [] }
-arrive_turn d Stale turn = record turn { history = turn.history ++ Arrive d.who d.step d.k Stale ∷ [] }
-arrive_turn d Unasked turn = record turn { history = turn.history ++ Arrive d.who d.step d.k Unasked ∷ [] }
-arrive_turn d Full turn = turn
+arrive_turn d verdict turn = record turn { history = after_arrival turn.history d.who d.step d.k verdict }
 
 -- a delivery that is there arrives
 abbrev pub arrive_of : StepJob → Option Delivery → Turn → Turn
@@ -183,25 +179,6 @@ abbrev pub first_state : Main → State
 first_state main = record { run = run_on main; modes = λ w. Idle; deliveries = [] }
 
 -- ---- the caller
-
--- the caller claims number k and delivers its answer
-abbrev pub pair_of : StepJob → ℕ → History
-pair_of job k = Claim CALLER k ∷ Arrive CALLER job.number k First ∷ []
-
--- the caller's claim got this answer: work gives a pair, and then more; else the history stays
-abbrev pub pairs_by : Claimed → StepJob → History → (History → History) → History
-pairs_by (Work k) job history more = more (history ++ pair_of job k)
-pairs_by AllDone job history more = history
-pairs_by Spent job history more = history
-
--- the caller adds pairs, as many as given at most, until nothing is wanted
-abbrev pub with_pairs : ℕ → StepJob → History → History
-with_pairs zero job history = history
-with_pairs (suc most) job history = pairs_by (claimed job history CALLER) job history (with_pairs most job)
-
--- the caller completes a step: one pair a routine is enough
-abbrev pub completed : StepJob → History → History
-completed job history = with_pairs (size_of job) job history
 
 -- the caller completes each step from here on
 abbrev pub finish_main : Main → Run

@@ -1,6 +1,6 @@
 //! Worked examples of worlds. They are the contract of a function that does nothing.
 
-ghost use Rattle.event_world.specs.Rows.{NobodyWorks, WorkerStops, RepeatedAndLate, ConflictInOrderOfNumbers, LaterFaultFirst, SkippedEvents, ClaimIsDropped, LateAnswerCountsForNothing, StoppedWorkerDelivers};
+ghost use Rattle.event_world.specs.Rows.{NobodyWorks, WorkerStops, RepeatedAndLate, ConflictInOrderOfNumbers, LaterFaultFirst, SkippedEvents, ClaimIsDropped, LateAnswerCountsForNothing, StoppedWorkerDelivers, StoppedStaysStopped, FinishedIsIdle, SpentIsIdle, EmptyStepIsPassed, FullIsNotEntered, UnaskedFillAStep};
 
 /// Each example is a small program, a list of events, what is shown, the steps' histories and the end.
 pub fn worked_worlds()
@@ -13,4 +13,10 @@ pub fn worked_worlds()
     ensures dropped { ClaimIsDropped }
     ensures counts_for_nothing { LateAnswerCountsForNothing }
     ensures still_delivers { StoppedWorkerDelivers }
+    ensures still_stopped { StoppedStaysStopped }
+    ensures idle_again { FinishedIsIdle }
+    ensures spent { SpentIsIdle }
+    ensures empty_step { EmptyStepIsPassed }
+    ensures full { FullIsNotEntered }
+    ensures unasked { UnaskedFillAStep }
 {}

@@ -16,15 +16,24 @@ use Rattle.cal_base.specs.Arithmetic.{fits_word}
 use Rattle.cal_base.specs.Memory.{Memory, kinds_of, kind_at, value_at, is_ordinary, has_one_writer}
 use Rattle.cal_base.specs.Answers.{Answers, answer_of, entry_in, is_fault}
 use Rattle.cal_base.specs.After.{first_writer, is_shared, shared_word, is_faulty, least_faulty, fault_by, fault_of, value_after, merged_memory, has_total, is_outside, unless_outside, after}
-use Rattle.step_laws.specs.Leaves.{IsShared, IsFaulty, NoneBelow, left_in, IsOutside, IsRightFault, IsRightMemory, FaultyIsTested, AfterIsRight}
+use Rattle.step_laws.specs.Leaves.{IsShared, IsFaulty, NoneBelow, IsOutside, IsRightFault, IsRightMemory, FaultyIsTested, AfterIsRight}
 use Rattle.step_laws.proofs.Searches.{at_least, least_le}
+use Rattle.step_laws.proofs.Totals.{totals_are_laid}
 use Rattle.step_laws.proofs.Agreement.{below_least_faulty, at_least_faulty, not_faulty_without, after_fault}
 
-ordinary_within : (kinds : List WordKind) (a : ℕ) → is_ordinary kinds a ≡ true → a < length kinds
+pub ordinary_within : (kinds : List WordKind) (a : ℕ) → is_ordinary kinds a ≡ true → a < length kinds
 ordinary_within [] zero e = absurd (cc)
 ordinary_within [] (suc a) e = absurd (cc)
 ordinary_within (kind ∷ kinds) zero e = omega arith
 ordinary_within (kind ∷ kinds) (suc a) e = let h : a < length kinds = ordinary_within kinds a e in omega arith
+
+-- what the answers leave in a word, without bound
+abbrev left_in : Memory → Answers → ℕ → ℤ
+left_in memory answers address = value_after (kind_at memory address) answers address (value_at memory address)
+
+tally_of : (kind : WordKind) → has_total kind ≡ true → kind ≡ Tally
+tally_of Ordinary e = absurd (cc)
+tally_of Tally e = refl
 
 -- ---- the search for a shared word
 
@@ -176,7 +185,13 @@ module _ (memory : Memory) (answers : Answers) where
   outside_found : (a : ℕ) → a < length memory → is_outside (get_or (merged_memory memory answers) a no_word) ≡ true → IsOutside memory answers a
   outside_found a within passes =
       let parts = and_parts (has_total (kind_at memory a)) (not (fits_word (left_in memory answers a))) (ap (λ (w : Word). is_outside w) (sym (merged_is a within)) ∙ passes) in
-      record { within = within; total = parts.0; outside = negated (fits_word (left_in memory answers a)) parts.1 }
+      let tally : Tally ≡ kind_at memory a = sym (tally_of (kind_at memory a) parts.0) in
+      record {
+        within = within;
+        tally = parts.0;
+        outside = λ total is.
+            ap fits_word ((totals_are_laid a (value_at memory a)).1 total is answers ∙ ap (λ k. value_after k answers a (value_at memory a)) tally) ∙ negated (fits_word (left_in memory answers a)) parts.1;
+      }
     where
       negated : (b : Bool) → not b ≡ true → b ≡ false
       negated true e = absurd (cc)
@@ -185,7 +200,9 @@ module _ (memory : Memory) (answers : Answers) where
   outside_test : (a : ℕ) → IsOutside memory answers a → is_outside (get_or (merged_memory memory answers) a no_word) ≡ true
   outside_test a outside =
       ap (λ (w : Word). is_outside w) (merged_is a outside.within)
-      ∙ and_from (has_total (kind_at memory a)) (not (fits_word (left_in memory answers a))) outside.total (ap not outside.outside)
+      ∙ and_from (has_total (kind_at memory a)) (not (fits_word (left_in memory answers a))) outside.tally
+      (ap (λ k. not (fits_word (value_after k answers a (value_at memory a)))) (tally_of (kind_at memory a) outside.tally)
+      ∙ ap not (outside.outside (λ xs. value_after Tally xs a (value_at memory a)) (totals_are_laid a (value_at memory a)).0))
 
 -- ---- where nothing is faulty
 
@@ -240,7 +257,9 @@ module _ (memory : Memory) (answers : Answers) (none : NoneBelow (kinds_of memor
         ∙ (ap (λ j. unwrap_or (entry_in (answer_of answers j) a) (value_at memory a)) (one_writer k a v ordinary wrote)
         ∙ ap (λ o. unwrap_or o (value_at memory a)) wrote);
     stays = λ a ordinary unwritten. ordinary_left a ordinary ∙ ap (λ o. unwrap_or o (value_at memory a)) (unwritten (first_writer answers (length answers) a));
-    total = λ a within tally. value_at-merged memory answers a within ∙ ap (λ kind. value_after kind answers a (value_at memory a)) tally;
+    total = λ a within tally total is.
+        value_at-merged memory answers a within
+        ∙ (ap (λ kind. value_after kind answers a (value_at memory a)) tally ∙ sym ((totals_are_laid a (value_at memory a)).1 total is answers));
   }
 
   -- without a fault, the step leaves the merged memory, or the least total outside 64 bits

@@ -1,9 +1,11 @@
 -- What a step leaves, in words. The definitions, which search and fold, come to just this.
-use Rattle.std.specs.Prelude.{◌≡◌, ℕ, ◌<◌, ◌≤◌, ◌↔◌, ◌⊎◌, IsTrue, IsFalse, List, length, ℤ, Some, None, is_some, MatchResult}
+use Rattle.std.specs.Prelude.{◌≡◌, ℕ, ◌<◌, ◌≤◌, ◌↔◌, ◌⊎◌, IsTrue, IsFalse, List, length, replicate, ℤ, pos, ◌+ℤ◌, Option, Some, None, is_some, MatchResult, slice_set}
+use Rattle.std.specs.Option.{unwrap_or}
 use Rattle.cal_base.specs.declared.ends.StepFault.{StepFault}
 use Rattle.cal_base.specs.declared.ends.StepFault.TheVariants.{Trap, Conflict, Total}
 use Rattle.cal_terms.specs.declared.kinds.WordKind.{WordKind}
 use Rattle.cal_terms.specs.declared.kinds.WordKind.TheVariants.{Tally}
+use Rattle.cal_base.specs.declared.answer.Answer.{Answer}
 use Rattle.cal_base.specs.declared.answer.Answer.TheVariants.{Fault}
 use Rattle.cal_base.specs.Arithmetic.{fits_word}
 use Rattle.cal_base.specs.Memory.{Memory, kinds_of, kind_at, value_at, is_ordinary}
@@ -33,15 +35,20 @@ pub record IsConflict (kinds : List WordKind) (answers : Answers) (k address j :
   pub least : (a i : ℕ) → IsShared kinds answers k a i → address ≤ a
   pub only : (i : ℕ) → IsShared kinds answers k address i → i ≡ j
 
--- what the answers leave in a word, without bound
-abbrev pub left_in : Memory → Answers → ℕ → ℤ
-left_in memory answers address = value_after (kind_at memory address) answers address (value_at memory address)
+-- what an answer adds to a tally word
+abbrev pub addend : ℕ → Option Answer → ℤ
+addend address answer = unwrap_or (entry_in answer address) (pos 0)
+
+-- the totals of a tally word with this value, said by laying one answer after another: with no answer it is the value, and with one more it is exactly that answer's entry more
+pub record IsTotal (address : ℕ) (value : ℤ) (total : Answers → ℤ) : Type 0 where
+  pub none : (n : ℕ) → total (replicate n None) ≡ value
+  pub more : (answers : Answers) (k : ℕ) (answer : Answer) → k < length answers → answer_of answers k ≡ None → total (slice_set answers k (Some answer)) ≡ total answers +ℤ addend address (Some answer)
 
 -- the word has a total, and it is outside 64 bits
 pub record IsOutside (memory : Memory) (answers : Answers) (address : ℕ) : Type 0 where
   pub within : address < length memory
-  pub total : IsTrue (has_total (kind_at memory address))
-  pub outside : IsFalse (fits_word (left_in memory answers address))
+  pub tally : IsTrue (has_total (kind_at memory address))
+  pub outside : (total : Answers → ℤ) → IsTotal address (value_at memory address) total → IsFalse (fits_word (total answers))
 
 -- a step ends with this fault: that of the least faulty number, or, where no number is faulty, the least total outside 64 bits
 abbrev pub IsRightFault : Memory → Answers → StepFault → Type 0
@@ -57,7 +64,14 @@ pub record IsRightMemory (memory : Memory) (answers : Answers) (later : Memory) 
   pub kinds : kinds_of later ≡ kinds_of memory
   pub written : (k address : ℕ) (value : ℤ) → IsTrue (is_ordinary (kinds_of memory) address) → entry_in (answer_of answers k) address ≡ Some value → value_at later address ≡ value
   pub stays : (address : ℕ) → IsTrue (is_ordinary (kinds_of memory) address) → ((k : ℕ) → entry_in (answer_of answers k) address ≡ None) → value_at later address ≡ value_at memory address
-  pub total : (address : ℕ) → address < length memory → kind_at memory address ≡ Tally → value_at later address ≡ value_after Tally answers address (value_at memory address)
+  pub total : (address : ℕ) → address < length memory → kind_at memory address ≡ Tally → (total : Answers → ℤ) → IsTotal address (value_at memory address) total → value_at later address ≡ total answers
+
+-- what the answers leave in a tally word is its total, and there is no other
+abbrev pub TotalsAreLaid : Type 0
+TotalsAreLaid =
+    (address : ℕ) (value : ℤ)
+    → IsTotal address value (λ answers. value_after Tally answers address value)
+    × ((total : Answers → ℤ) → IsTotal address value total → (answers : Answers) → total answers ≡ value_after Tally answers address value)
 
 -- the test for faulty numbers passes exactly the faulty ones
 abbrev pub FaultyIsTested : Type 0

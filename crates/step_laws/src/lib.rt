@@ -14,7 +14,8 @@ ghost use Rattle.step_laws.specs.Laws.{
   CallerDeliversFirst,
   OneWriterEach,
 };
-ghost use Rattle.step_laws.specs.Leaves.{FaultyIsTested, AfterIsRight};
+ghost use Rattle.step_laws.specs.Caller.{CallerCompletes};
+ghost use Rattle.step_laws.specs.Leaves.{TotalsAreLaid, FaultyIsTested, AfterIsRight};
 ghost use Rattle.cal_base.specs.Pages.{LaterIsTransitive, WritesAreLater};
 ghost use Rattle.step_laws.specs.Rows.{
   DivisionCuts,
@@ -84,6 +85,16 @@ pub fn number_of_claims()
 pub fn answers_to_claims()
     ensures right { ClaimsAreRight }
     ensures caller { CallerDeliversFirst }
+{}
+
+/// The caller completes each step by itself, by as many pairs of a claim and a delivery as the step has routines at most.
+pub fn caller_completes()
+    ensures { CallerCompletes }
+{}
+
+/// What the answers leave in a tally word is its total: with no answer its value, with one more exactly that answer's entry more.
+pub fn totals_of_a_word()
+    ensures { TotalsAreLaid }
 {}
 
 /// What a step leaves is right: the fault of the least faulty number, or the least total outside 64 bits, or the memory

@@ -2,7 +2,6 @@
 use Rattle.std.proofs.Common.{◌≡◌, ℕ, zero, suc, ◌+◌, ◌<◌, ◌≤◌, ℤ, pos, ◌+ℤ◌, Bool, true, false, cond, ◌&&◌, ◌||◌, ltb, eqb, min, max, List, [], ◌∷◌, length, set, get_or, refl, sym, ap, ◌∙◌, subst, ⊎_elim, arith, Option, Some, None}
 use Rattle.std.specs.Prelude.{is_some}
 use Rattle.std.specs.Option.{unwrap_or}
-use Rattle.std.specs.List.{fold}
 use Rattle.std.specs.FinMap.{get, insert, empty, get-empty}
 use Rattle.std.specs.Ordering.{nat_cmp}
 use Rattle.std.proofs.lemmas.Bool.{cases_lt, cases_eq, cases_Bool, both_ways, lt-ltb, le-ltb, ne_eqb, eq-eqb}
@@ -19,19 +18,12 @@ use Rattle.cal_base.specs.After.{first_writer, is_shared}
 use Rattle.cal_base.specs.Numbers.{least_below}
 use Rattle.cal_base.proofs.Updates.{IsCopied, get_put, get_put_other, copied_none, copied_more}
 use Rattle.step_laws.proofs.Searches.{at_least, least_below_same}
+use Rattle.step_laws.proofs.Totals.{add_from, sum_more}
+use Rattle.step_laws.proofs.Leaves.{ordinary_within}
 use Rattle.step_merge.specs.Staged.{Staged, StandsFor, size_of, is_laid, owner_in, value_in, addend, IsLeastPair, IsLeastFailed, LaysAt}
 use Rattle.step_merge.specs.Laws.{is_second, WritesToo, lesser_pair}
 use Rattle.step_merge.specs.Steps.{laid_count, candidate_with, with_write, with_sum, with_laid, with_failed, lesser_failed, HasRoom}
-use Rattle.step_merge.proofs.Streaming.{owner_rule, candidate_rule, candidate_kept, shifted}
-
-abbrev add_from : ℕ → ℤ → Answers → ℤ
-add_from a = fold (λ total answer. total +ℤ addend a answer)
-
-pub ordinary_within : (kinds : List WordKind) (a : ℕ) → is_ordinary kinds a ≡ true → a < length kinds
-ordinary_within [] zero e = absurd (cc)
-ordinary_within [] (suc a) e = absurd (cc)
-ordinary_within (kind ∷ kinds) zero e = omega arith
-ordinary_within (kind ∷ kinds) (suc a) e = let h : a < length kinds = ordinary_within kinds a e in omega arith
+use Rattle.step_merge.proofs.Streaming.{owner_rule, candidate_rule, candidate_kept}
 
 pub answered_within : (answers : Answers) (k : ℕ) (answer : Answer) → answer_of answers k ≡ Some answer → k < length answers
 answered_within [] k answer at = absurd (cc)
@@ -127,14 +119,6 @@ length_if false xs a x = refl
 value_at_set : (c : Bool) (values : List ℤ) (a : ℕ) (v : ℤ) → a < length values → get_or (cond c (set values a v) values) a (pos 0) ≡ cond c v (get_or values a (pos 0))
 value_at_set true values a v within = get_or-set_same values a v (pos 0) within
 value_at_set false values a v within = refl
-
-sum_more : (xs : Answers) (k a : ℕ) (answer : Option Answer) (v : ℤ) → k < length xs → addend a (answer_of xs k) ≡ pos 0 → addend a answer ≡ v → (z : ℤ) → add_from a z (set xs k answer) ≡ add_from a z xs +ℤ v
-sum_more [] k a answer v within was is z = absurd (omega arith)
-sum_more (x ∷ xs) zero a answer v within was is z =
-    let one = shifted xs a (z +ℤ addend a answer) in
-    let two = shifted xs a (z +ℤ addend a x) in
-    omega (arith, ints, one, two, was, is)
-sum_more (x ∷ xs) (suc k) a answer v within was is z = sum_more xs k a answer v (omega arith) was is (z +ℤ addend a x)
 
 -- number k has these entries, and one more for word a
 module _ (stage : Staged) (xs : Answers) (k a : ℕ) (v : ℤ) (kept : Written) (at : answer_of xs k ≡ Some (Update kept)) (free : get kept a ≡ None) (word : a < length stage.kinds) (keeps : KeepsEntries stage xs) (size : size_of stage ≡ length xs) (owners : length stage.owners ≡ length stage.kinds) (values : length stage.values ≡ length stage.kinds) where

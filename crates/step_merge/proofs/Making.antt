@@ -12,7 +12,7 @@ use Rattle.cal_base.specs.After.{first_writer, is_shared}
 use Rattle.step_laws.proofs.Searches.{least_at}
 use Rattle.step_merge.specs.Staged.{Staged, StandsFor, addend}
 use Rattle.step_merge.specs.Steps.{IsSound}
-use Rattle.step_merge.proofs.Merging.{nothing_added}
+use Rattle.step_laws.proofs.Totals.{nothing_added}
 
 no_flag : (n k : ℕ) → get_or (replicate n false) k false ≡ false
 no_flag zero k = refl

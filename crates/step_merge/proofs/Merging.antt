@@ -1,10 +1,9 @@
 -- Word by word, the memory with something left in its words.
 use Rattle.std.proofs.Common.{◌≡◌, ◌<◌, ◌≤◌, ◌+◌, ◌^◌, ℕ, zero, suc, ℤ, pos, negsuc, length, set, get_or, map, List, [], ◌∷◌, Option, None, Some, ◌∙◌, sym, ap, refl, arith, Bool, true, false, cond, ltb, not, ◌&&◌, SFits, w64, add-one, add-zero, ⊎_elim, subst}
-use Rattle.std.proofs.lemmas.Int.{ints}
 use Rattle.std.proofs.lemmas.List.{get_or_past, get_or-set_other}
-use Rattle.std.specs.Prelude.{slice_get, is_some, ◌+ℤ◌}
+use Rattle.std.specs.Prelude.{slice_get, is_some}
 use Rattle.std.specs.Option.{option_map_or, unwrap_or}
-use Rattle.std.specs.List.{fold, enumerate_from, position, position_or_len}
+use Rattle.std.specs.List.{enumerate_from, position, position_or_len}
 use Rattle.std.proofs.lemmas.Bool.{cases_lt, lt-ltb, le-ltb, ltb-true}
 use Rattle.std.proofs.lemmas.List.Sums.{position_or_len_is, fails_before_first}
 use Rattle.cal_terms.specs.declared.kinds.WordKind.{WordKind}
@@ -16,7 +15,8 @@ use Rattle.cal_base.specs.Pages.{Paged, page_of, version_of}
 use Rattle.cal_base.specs.Answers.{Answers, answer_of, entry_in}
 use Rattle.cal_base.specs.After.{first_writer, value_after, is_outside, has_total, merged_memory}
 use Rattle.step_laws.proofs.Searches.{below_least, at_least, least_at}
-use Rattle.step_merge.specs.Staged.{Staged, StandsFor, size_of, owner_in, value_in, addend}
+use Rattle.step_laws.proofs.Totals.{nothing_added}
+use Rattle.step_merge.specs.Staged.{Staged, StandsFor, size_of, owner_in, value_in}
 use Rattle.step_merge.specs.Steps.{has_owner, entered, left_by, left_word, left_memory, is_outside_word}
 use Rattle.step_merge.proofs.Streaming.{value_is_kept}
 
@@ -207,12 +207,6 @@ found_within : (kinds : List WordKind) (i : ℕ) (kind : WordKind) → slice_get
 found_within [] i kind at = absurd (cc)
 found_within (k ∷ kinds) zero kind at = omega arith
 found_within (k ∷ kinds) (suc i) kind at = omega (arith, found_within kinds i kind at)
-
-pub nothing_added : (answers : Answers) (a : ℕ) → ((j : ℕ) → entry_in (answer_of answers j) a ≡ None) → (z : ℤ) → fold (λ total answer. total +ℤ addend a answer) z answers ≡ z
-nothing_added [] a none z = refl
-nothing_added (answer ∷ answers) a none z =
-    let here : z +ℤ addend a answer ≡ z = omega (arith, ints, ap (λ o. unwrap_or o (pos 0)) (none 0)) in
-    ap (λ x. fold (λ total answer. total +ℤ addend a answer) x answers) here ∙ nothing_added answers a (λ j. none (suc j)) z
 
 no_entry : (o : Option ℤ) → is_some o ≡ false → o ≡ None
 no_entry None e = refl

@@ -3,8 +3,6 @@ use Rattle.std.proofs.Common.{◌≡◌, ℕ, zero, suc, ℤ, pos, ◌+ℤ◌, L
 use Rattle.std.proofs.lemmas.Bool.{cases_lt, cases_eq, cases_Bool, both_ways, lt-ltb, le-ltb, ltb-true, eqb-true, eq-eqb, ne_eqb, and_from, and_parts, or_cases, or_left, or_right}
 use Rattle.std.specs.Prelude.{is_some}
 use Rattle.std.specs.Option.{unwrap_or}
-use Rattle.std.specs.List.{fold}
-use Rattle.std.proofs.lemmas.Int.{ints}
 use Rattle.cal_terms.specs.declared.kinds.WordKind.{WordKind}
 use Rattle.cal_base.specs.declared.ends.Cause.{Cause}
 use Rattle.cal_base.specs.declared.answer.Answer.{Answer}
@@ -12,9 +10,10 @@ use Rattle.cal_base.specs.declared.answer.Answer.TheVariants.{Fault}
 use Rattle.cal_base.specs.Answers.{Answers, answer_of, entry_in, is_fault}
 use Rattle.cal_base.specs.After.{first_writer, is_shared, shared_word, is_faulty, least_faulty}
 use Rattle.step_laws.proofs.Agreement.{least_faulty_at}
+use Rattle.step_laws.proofs.Totals.{shifted}
 use Rattle.cal_base.specs.Numbers.{least_below}
 use Rattle.step_laws.proofs.Searches.{least_below-le, below_least, at_least, least_le, least_at}
-use Rattle.step_merge.specs.Staged.{addend, IsLeastPair, IsLeastFailed}
+use Rattle.step_merge.specs.Staged.{IsLeastPair, IsLeastFailed}
 use Rattle.step_merge.specs.Laws.{least_found, LeastIsKept, ValueIsKept, is_second, OwnerRule, CandidateRule, CandidateKept}
 
 pub owner_rule : OwnerRule
@@ -149,21 +148,6 @@ least_of kinds answers (Some pair) (Some (f, cause)) alone whole =
 
 pub least_is_kept : LeastIsKept
 least_is_kept stage answers stands = least_of stage.kinds answers stage.candidate stage.failed stands.candidate stands.failed
-
--- ---- sums
-
-shift_from : (answers : Answers) (a : ℕ) (x y : ℤ) → fold (λ total answer. total +ℤ addend a answer) (x +ℤ y) answers ≡ x +ℤ fold (λ total answer. total +ℤ addend a answer) y answers
-shift_from [] a x y = refl
-shift_from (answer ∷ answers) a x y =
-    let e = addend a answer in
-    let same : (x +ℤ y) +ℤ e ≡ x +ℤ (y +ℤ e) = omega (arith, ints) in
-    ap (λ z. fold (λ total answer. total +ℤ addend a answer) z answers) same ∙ shift_from answers a x (y +ℤ e)
-
--- a sum that begins at x is x more than one that begins at 0
-pub shifted : (answers : Answers) (a : ℕ) (x : ℤ) → fold (λ total answer. total +ℤ addend a answer) x answers ≡ x +ℤ fold (λ total answer. total +ℤ addend a answer) (pos 0) answers
-shifted answers a x =
-    let same : x ≡ x +ℤ pos 0 = omega (arith, ints) in
-    ap (λ z. fold (λ total answer. total +ℤ addend a answer) z answers) same ∙ shift_from answers a x (pos 0)
 
 pub value_is_kept : ValueIsKept
 value_is_kept stage answers stands a value = (

@@ -1,5 +1,5 @@
 -- The routines of a job, by their numbers.
-use Rattle.std.proofs.Common.{◌≡◌, ℕ, ◌+◌, ◌-◌, ◌<◌, ◌≤◌, List, length, take, drop, get_or, sum, Some, refl, sym, ap, subst, ◌∙◌, arith, length-drop}
+use Rattle.std.proofs.Common.{◌≡◌, ℕ, ◌+◌, ◌<◌, ◌≤◌, List, length, drop, sum, Some, sym, ap, subst, ◌∙◌, arith, length-drop}
 use Rattle.std.specs.Prelude.{slice_get, slice_index_or}
 use Rattle.std.proofs.lemmas.List.{length-take-le, get_or-take, get_or-drop}
 use Rattle.std.proofs.lemmas.Option.{slice_get-get_or, slice_get_within}
@@ -10,7 +10,7 @@ use Rattle.cal_base.specs.Updates.{Written}
 use Rattle.cal_base.specs.Claims.{StepJob, size_of}
 use Rattle.bytecode.specs.declared.module.Code.{Code}
 use Rattle.bytecode.specs.declared.module.Module.{Module}
-use Rattle.machine_meaning.specs.Meaning.{Outcome, blocks_of, answered, routine_outcome}
+use Rattle.machine_meaning.specs.Meaning.{blocks_of, answered, routine_outcome}
 use Rattle.routine_vm.specs.Held.{IsOutcome}
 use Rattle.engine_laws.specs.Steps.{step_job}
 use Rattle.engine_laws.proofs.Answers.{answers_are_all, answers_go_by_blocks}

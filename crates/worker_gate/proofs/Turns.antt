@@ -1,10 +1,10 @@
 -- The turns of the caller.
-use Rattle.std.proofs.Common.{◌≡◌, ℕ, suc, ◌+◌, ◌-◌, ◌<◌, ◌≤◌, Bool, true, false, [], ◌∷◌, ◌++◌, refl, sym, ap, subst, ◌∙◌, arith, append_assoc}
+use Rattle.std.proofs.Common.{◌≡◌, ℕ, suc, ◌+◌, ◌-◌, ◌<◌, ◌≤◌, Bool, true, false, [], ◌∷◌, ◌++◌, sym, ap, subst, ◌∙◌, arith, append_assoc}
 use Rattle.cal_base.specs.declared.step.TheConstants.{CALLER}
 use Rattle.cal_base.specs.declared.step.Verdict.{Verdict}
 use Rattle.cal_base.specs.declared.step.Verdict.TheVariants.{First}
 use Rattle.cal_base.specs.declared.step.Claimed.{Claimed}
-use Rattle.cal_base.specs.declared.step.Claimed.TheVariants.{Work, AllDone}
+use Rattle.cal_base.specs.declared.step.Claimed.TheVariants.{Work}
 use Rattle.cal_base.specs.declared.step.Entry.TheVariants.{Claim, Arrive}
 use Rattle.cal_base.specs.History.{History, is_caller, anyone, is_claim, is_arrival, claims_by, arrivals_by}
 use Rattle.cal_base.specs.Claims.{StepJob, size_of, claimed, verdict_on, IsLegal, IsComplete}
@@ -14,7 +14,7 @@ use Rattle.step_laws.proofs.StepLaws.{claims_are_right, caller_delivers_first}
 use Rattle.event_world.specs.World.{pair_of, pairs_by, with_pairs, completed}
 use Rattle.event_world.specs.Law.{NoCaller}
 use Rattle.event_world.proofs.Caller.{completed_is_whole}
-use Rattle.step_core.specs.Calls.{after_claim, after_arrival}
+use Rattle.step_core.specs.Calls.{after_arrival}
 use Rattle.worker_gate.specs.Working.{TookTurn}
 
 -- what is claimed is a number of the step

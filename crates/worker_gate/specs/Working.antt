@@ -1,5 +1,5 @@
 -- What a contract sees of a worker, and what its work leaves.
-use Rattle.std.specs.Prelude.{◌≡◌, ℕ, ◌+◌, Bool, true, false, List, [], ◌++◌, length}
+use Rattle.std.specs.Prelude.{◌≡◌, ℕ, ◌+◌, Bool, true, false, ◌++◌, length}
 use Rattle.cal_base.specs.declared.step.TheConstants.{CALLER}
 use Rattle.cal_base.specs.declared.step.WorkerTally.{WorkerTally}
 use Rattle.cal_base.specs.declared.step.Claimed.TheVariants.{Work, AllDone}

@@ -17,7 +17,7 @@ pub struct Buffer {
 
 impl Model for Buffer {
     ghost use Rattle.std.specs.Prelude.{◌≤◌, length};
-    ghost use Rattle.plain_words.specs.Own.{own_from};
+    ghost use Rattle.cal_base.specs.Entries.{own_from};
     ghost use Rattle.worker_gate.specs.Buffered.{Buffered};
 
     ghost Value = { Buffered };

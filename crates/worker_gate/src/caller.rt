@@ -1,6 +1,6 @@
 //! The caller's part in a step.
 
-ghost use Rattle.std.specs.Prelude.{◌≡◌, ◌+◌, ◌<◌, ◌≤◌, ◌^◌, IfOk, OnOk, if◌then◌else◌};
+ghost use Rattle.std.specs.Prelude.{◌≡◌, ◌+◌, ◌<◌, ◌≤◌, ◌^◌, if◌then◌else◌};
 ghost use Rattle.cal_base.specs.History.{claims_by, arrivals_by, is_caller};
 ghost use Rattle.cal_base.specs.Claims.{size_of, IsComplete};
 ghost use Rattle.event_world.specs.World.{completed};
@@ -9,58 +9,46 @@ ghost use Rattle.worker_gate.specs.Working.{MayWork, TookTurn, with_claims};
 
 use crate::job::Job;
 use crate::worker::Worker;
-use cal_base::{CALLER, Claimed, JobName, NoMemory};
-use std::alloc::Global;
+use cal_base::{CALLER, Claimed, JobName};
 use step_core::{Core, Finished};
 
 /// One turn of the caller: it claims, executes and delivers, or nothing is wanted any more.
-fn turn<N: JobName>(
-    alloc: Global,
-    worker: &mut Worker,
-    job: &Job<'_, N>,
-    core: &mut Core<N>,
-) -> Result<bool, NoMemory>
+fn turn<N: JobName>(worker: &mut Worker, job: &Job<'_, N>, core: &mut Core<N>) -> bool
     requires may { MayWork worker.old job.now.image.now.memory job.now.code.now }
     requires fits { worker.old.tally.claims + 1 < 2 ^ 64 }
     requires claims { claims_by is_caller core.old < size_of N.job }
     requires arrivals { arrivals_by is_caller core.old < size_of N.job }
-    ensures took { IfOk result (λ more. TookTurn N.job core.old more core.new) }
-    ensures tally { IfOk result (λ more. worker.new.tally ≡ with_claims worker.old.tally (if more then 1 else 0)) }
+    ensures took { TookTurn N.job core.old result core.new }
+    ensures tally { worker.new.tally ≡ with_claims worker.old.tally (if result then 1 else 0) }
     ensures room { worker.new.words ≡ worker.old.words }
 {
     let Claimed::Work(k) = core.claim(CALLER) else {
-        return Ok(false);
+        return false;
     };
     let ended = worker.run(job, k);
     let done = Finished::of(k, ended, worker.view());
-    core.arrive(alloc, CALLER, &done)?;
+    core.arrive(CALLER, &done);
     worker.count();
-    Ok(true)
+    true
 }
 
-/// The caller completes the step by itself: it claims and delivers, until nothing is wanted. It waits for nobody. Where memory is wanted
-/// the step is left as far as it came.
-pub fn finish<N: JobName>(
-    alloc: Global,
-    worker: &mut Worker,
-    job: &Job<'_, N>,
-    core: &mut Core<N>,
-) -> Result<(), NoMemory>
+/// The caller completes the step by itself: it claims, executes and delivers, until nothing is wanted. It waits for nobody and takes no
+/// memory.
+pub fn finish<N: JobName>(worker: &mut Worker, job: &Job<'_, N>, core: &mut Core<N>)
     requires caller { worker.old.tally.who ≡ CALLER }
     requires may { MayWork worker.old job.now.image.now.memory job.now.code.now }
     requires fits { worker.old.tally.claims + job.now.n < 2 ^ 64 }
     requires alone { NoCaller core.old }
-    ensures complete { OnOk result (IsComplete N.job core.new) }
-    ensures history { OnOk result (core.new ≡ completed N.job core.old) }
-    ensures tally { OnOk result (worker.new.tally ≡ with_claims worker.old.tally (claims_by is_caller core.new)) }
-    ensures few { OnOk result (claims_by is_caller core.new ≤ size_of N.job) }
+    ensures complete { IsComplete N.job core.new }
+    ensures history { core.new ≡ completed N.job core.old }
+    ensures tally { worker.new.tally ≡ with_claims worker.old.tally (claims_by is_caller core.new) }
+    ensures few { claims_by is_caller core.new ≤ size_of N.job }
     ensures room { worker.new.words ≡ worker.old.words }
 {
     let _legal = core.history();
     for taken in 0..job.n {
-        if !turn(alloc, worker, job, core)? {
-            return Ok(());
+        if !turn(worker, job, core) {
+            return;
         }
     }
-    Ok(())
 }

@@ -50,9 +50,18 @@ impl<'a> View<'a> {
 }
 
 impl Words for View<'_> {
+    ghost use Rattle.std.specs.Prelude.{◌≡◌, refl};
+    ghost use Rattle.std.proofs.Common.{◌∙◌};
+
     ghost opening = { λ w. w.opening.now.memory };
 
     ghost written = { λ w. w.buffer.written };
+
+    ghost keeps = { λ earlier later. later.opening.now ≡ earlier.opening.now };
+
+    ghost keeps_itself = { λ words. refl };
+
+    ghost keeps_on = { λ first second third one two. two ∙ one };
 
     fn read(&mut self, a: u32) -> i64 {
         match self.buffer.get(a) {

@@ -1,4 +1,4 @@
-use Rattle.std.proofs.Common.{◌≡◌, ◌≤◌, false, Option, None, Some, Ok, refl, sym, ap, ◌∙◌, arith}
+use Rattle.std.proofs.Common.{false, Option, None, Some, Ok, ap, arith}
 use Rattle.std.proofs.lemmas.Result.{err_from_is_err_and}
 use Rattle.cal_base.specs.declared.ends.RunEnd.{RunEnd}
 use Rattle.calypso_engine.proofs.Events.{went_nowhere, went_then, came_then, gave_up, some_goes}

@@ -1,4 +1,4 @@
-use Rattle.std.proofs.Common.{◌≡◌, ◌∙◌, false, refl}
+use Rattle.std.proofs.Common.{◌∙◌, false, refl}
 use Rattle.cal_base.specs.declared.ends.RunEnd.TheVariants.{Done, MainFault}
 use Rattle.calypso_engine.specs.declared.event.Standing.{Standing}
 use Rattle.calypso_engine.proofs.Falling.{main_falls, step_falls}

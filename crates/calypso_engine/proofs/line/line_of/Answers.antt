@@ -1,4 +1,4 @@
-use Rattle.std.proofs.Common.{◌≡◌, ◌+◌, ◌++◌, List, ℕ, drop, map, ap, ◌∙◌}
+use Rattle.std.proofs.Common.{◌+◌, ◌++◌, List, ℕ, drop, map, ap, ◌∙◌}
 use Rattle.cal_base.specs.Printing.{line_of}
 use Rattle.routine_vm.specs.Events.{piece_of}
 use Rattle.calypso_engine.proofs.Lines.{piece_more, pieces_end}

@@ -27,3 +27,21 @@ returns-clause-counts_for_nothing c = Examples.late_answer_counts_for_nothing
 
 pub returns-clause-still_delivers : goal.returns-clause-still_delivers
 returns-clause-still_delivers c = Examples.stopped_worker_delivers
+
+pub returns-clause-still_stopped : goal.returns-clause-still_stopped
+returns-clause-still_stopped c = Examples.stopped_stays_stopped
+
+pub returns-clause-idle_again : goal.returns-clause-idle_again
+returns-clause-idle_again c = Examples.finished_is_idle
+
+pub returns-clause-spent : goal.returns-clause-spent
+returns-clause-spent c = Examples.spent_is_idle
+
+pub returns-clause-empty_step : goal.returns-clause-empty_step
+returns-clause-empty_step c = Examples.empty_step_is_passed
+
+pub returns-clause-full : goal.returns-clause-full
+returns-clause-full c = Examples.full_is_not_entered
+
+pub returns-clause-unasked : goal.returns-clause-unasked
+returns-clause-unasked c = Examples.unasked_fill_a_step

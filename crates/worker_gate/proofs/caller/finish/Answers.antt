@@ -42,30 +42,30 @@ turn-requires-clause-arrivals g c =
 pub loop-taken-preserved : goal.loop-taken-preserved
 loop-taken-preserved g c =
     let job = c.args.job.now in
-    let t = turned g.N.JobName.job c.loop-taken.core c.turn.new.core (completed g.N.JobName.job c.args.core.now) c.in_ok-turn.field-0 job.n c.loop-taken.taken c.if-not-branch.false c.in_ok-turn.ensures.took c.loop-taken-test.true c.loop-taken.invariant.left in
+    let t = turned g.N.JobName.job c.loop-taken.core c.turn.new.core (completed g.N.JobName.job c.args.core.now) c.turn.result job.n c.loop-taken.taken c.if-not-turn.false c.turn.ensures.took c.loop-taken-test.true c.loop-taken.invariant.left in
     let tally = c.args.worker.now.tally in
     record {
       left = t.left;
       claims = omega (arith, t.claims, c.loop-taken.invariant.claims);
       arrivals = omega (arith, t.arrivals, c.loop-taken.invariant.arrivals);
       tally =
-          c.in_ok-turn.ensures.tally
-          ∙ ap (λ (b : Bool). with_claims c.loop-taken.worker.tally (cond b 1 0)) c.if-not-branch.false
+          c.turn.ensures.tally
+          ∙ ap (λ (b : Bool). with_claims c.loop-taken.worker.tally (cond b 1 0)) c.if-not-turn.false
           ∙ ap (λ (t : WorkerTally). with_claims t 1) c.loop-taken.invariant.tally
           ∙ (λ i. record tally { claims = one_more tally.claims c.loop-taken.taken i; executed = one_more tally.executed c.loop-taken.taken i });
       room = c.turn.ensures.room ∙ c.loop-taken.invariant.room;
     }
 
-pub returns-then-not-branch-clause-complete : goal.returns-then-not-branch-clause-complete
-returns-then-not-branch-clause-complete g c =
+pub returns-then-not-turn-clause-complete : goal.returns-then-not-turn-clause-complete
+returns-then-not-turn-clause-complete g c =
     let job = c.args.job.now in
-    let e = ended g.N.JobName.job c.loop-taken.core c.turn.new.core (completed g.N.JobName.job c.args.core.now) c.in_ok-turn.field-0 job.n c.loop-taken.taken c.if-not-branch.true c.in_ok-turn.ensures.took c.loop-taken-test.true c.loop-taken.invariant.left in
+    let e = ended g.N.JobName.job c.loop-taken.core c.turn.new.core (completed g.N.JobName.job c.args.core.now) c.turn.result job.n c.loop-taken.taken c.if-not-turn.true c.turn.ensures.took c.loop-taken-test.true c.loop-taken.invariant.left in
     whole_complete g.N.JobName.job c.args.core.now c.turn.new.core c.history-legal.ensures.legal c.requires.alone (omega (arith, job.few, job.all, ap size_of job.named, size_is job.code.now job.fuel job.step job.image.now.memory job.first_block job.widths.now job.there)) e.1
 
-pub returns-then-not-branch-clause-few : goal.returns-then-not-branch-clause-few
-returns-then-not-branch-clause-few g c =
+pub returns-then-not-turn-clause-few : goal.returns-then-not-turn-clause-few
+returns-then-not-turn-clause-few g c =
     let job = c.args.job.now in
-    let e = ended g.N.JobName.job c.loop-taken.core c.turn.new.core (completed g.N.JobName.job c.args.core.now) c.in_ok-turn.field-0 job.n c.loop-taken.taken c.if-not-branch.true c.in_ok-turn.ensures.took c.loop-taken-test.true c.loop-taken.invariant.left in
+    let e = ended g.N.JobName.job c.loop-taken.core c.turn.new.core (completed g.N.JobName.job c.args.core.now) c.turn.result job.n c.loop-taken.taken c.if-not-turn.true c.turn.ensures.took c.loop-taken-test.true c.loop-taken.invariant.left in
     omega (arith, ap (λ (h : History). claims_by is_caller h) e.0, c.loop-taken.invariant.claims, c.loop-taken-test.true, job.all, ap size_of job.named, size_is job.code.now job.fuel job.step job.image.now.memory job.first_block job.widths.now job.there)
 
 pub returns-clause-complete : goal.returns-clause-complete

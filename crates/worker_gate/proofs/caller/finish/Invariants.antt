@@ -1,7 +1,7 @@
-use Rattle.std.proofs.Common.{◌≡◌, ◌+◌, ◌-◌}
+use Rattle.std.proofs.Common.{◌≡◌, ◌-◌}
 use Rattle.cal_base.specs.History.{claims_by, arrivals_by, is_caller}
 use Rattle.event_world.specs.World.{with_pairs, completed}
-use Rattle.worker_gate.specs.Working.{MayWork, with_claims}
+use Rattle.worker_gate.specs.Working.{with_claims}
 use Rattle.worker_gate.proofs.caller.finish.Given as goal
 
 -- so many turns were taken, and those that are left complete the step

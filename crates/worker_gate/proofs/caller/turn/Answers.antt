@@ -7,5 +7,5 @@ run-ended-requires-clause-number g c = claimed_within g.N.JobName.job c.args.cor
 
 pub returns-clause-took : goal.returns-clause-took
 returns-clause-took g c =
-    took_pair g.N.JobName.job c.args.core.now c.claim.new.self c.arrive.new.self c.in-Work.k c.of-done.result.k c.in_ok-arrive.field-0 c.in-Work.ensures.answer c.in-Work.ensures.history c.of-done.ensures.k
-    c.in_ok-arrive.ensures.verdict c.in_ok-arrive.ensures.history
+    took_pair g.N.JobName.job c.args.core.now c.claim.new.self c.arrive.new.self c.in-Work.k c.of-done.result.k c.arrive.result c.in-Work.ensures.answer c.in-Work.ensures.history c.of-done.ensures.k
+    c.arrive.ensures.verdict c.arrive.ensures.history

@@ -1,8 +1,8 @@
 use Rattle.std.proofs.Common.{rules, ◌≡◌, ◌∙◌, List, ap, vec_len, length, Option, None, ℤ, arith}
 use Rattle.std.specs.FinMap.{empty}
 use Rattle.std.proofs.lemmas.List.{length-replicate}
-use Rattle.plain_words.specs.Own.{own_from}
-use Rattle.plain_words.proofs.Entries.{own_none}
+use Rattle.cal_base.specs.Entries.{own_from}
+use Rattle.cal_base.proofs.Entries.{own_none}
 use Rattle.worker_gate.specs.Buffered.{Buffered}
 use Rattle.worker_gate.proofs.buffer.Buffer.clear.Goals as goal
 

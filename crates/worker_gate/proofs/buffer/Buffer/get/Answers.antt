@@ -1,6 +1,6 @@
 use Rattle.std.proofs.Common.{◌∙◌, ◌<◌, length, None, sym, ap, arith}
 use Rattle.std.specs.FinMap.{get}
-use Rattle.plain_words.proofs.Entries.{get_own, same_default}
+use Rattle.cal_base.proofs.Entries.{get_own, same_default}
 use Rattle.worker_gate.specs.Buffered.{Buffered}
 use Rattle.worker_gate.proofs.buffer.Buffer.get.Goals as goal
 

@@ -1,6 +1,6 @@
 use Rattle.std.proofs.Common.{rules, ◌∙◌, List, ap}
-use Rattle.plain_words.specs.Own.{own_from}
-use Rattle.plain_words.proofs.Entries.{own_none}
+use Rattle.cal_base.specs.Entries.{own_from}
+use Rattle.cal_base.proofs.Entries.{own_none}
 use Rattle.worker_gate.proofs.buffer.Buffer.make.Goals as goal
 
 pub returns-clause-written : goal.returns-clause-written

@@ -2,7 +2,7 @@ use Rattle.std.proofs.Common.{◌≤◌, ◌<◌, ◌∙◌, ◌^◌, length, ap
 use Rattle.std.proofs.lemmas.Bool.{cases_lt}
 use Rattle.std.specs.FinMap.{get}
 use Rattle.cal_base.specs.Updates.{IsBelow}
-use Rattle.plain_words.proofs.Entries.{own_below, own_past}
+use Rattle.cal_base.proofs.Entries.{own_below, own_past}
 use Rattle.worker_gate.specs.Buffered.{Buffered}
 use Rattle.worker_gate.proofs.buffer.Buffer.next_from.Goals as goal
 

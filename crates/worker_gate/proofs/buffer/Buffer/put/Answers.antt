@@ -2,7 +2,7 @@ use Rattle.std.proofs.Common.{◌<◌, length, ap, rules, SFits, w64, arith}
 use Rattle.std.specs.FinMap.{insert}
 use Rattle.std.proofs.lemmas.Int.{to_z-of_z}
 use Rattle.std.proofs.lemmas.List.{length-set}
-use Rattle.plain_words.proofs.Entries.{own_put}
+use Rattle.cal_base.proofs.Entries.{own_put}
 use Rattle.worker_gate.specs.Buffered.{Buffered}
 use Rattle.worker_gate.proofs.buffer.Buffer.put.Goals as goal
 

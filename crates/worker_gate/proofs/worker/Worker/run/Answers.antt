@@ -1,4 +1,4 @@
-use Rattle.std.proofs.Common.{◌≡◌, ap, arith}
+use Rattle.std.proofs.Common.{ap, arith}
 use Rattle.cal_base.specs.Pages.{Paged}
 use Rattle.worker_gate.proofs.Numbers.{number_there, block_there, routine_answers}
 use Rattle.worker_gate.proofs.worker.Worker.run.Goals as goal
