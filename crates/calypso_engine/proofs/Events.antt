@@ -19,7 +19,7 @@ use Rattle.machine_meaning.specs.Runs.{main_beginning}
 use Rattle.machine_meaning.specs.Meaning.{main_of, machine_main, module_memory}
 use Rattle.routine_vm.specs.Held.{Held, main_state, MayGoOn}
 use Rattle.step_laws.proofs.StepLaws.{merged_is_meant}
-use Rattle.event_world.specs.Law.{IsWhole}
+use Rattle.step_laws.specs.Closed.{IsWhole}
 use Rattle.engine_laws.specs.Steps.{TakesUnits, step_job}
 use Rattle.engine_laws.specs.Ran.{RunsTo, Here, Shown, Closed, RunsThrough, Ended, Failed, callers_claims}
 use Rattle.engine_laws.proofs.Running.{parts_are_meant, runs_are_meant}

@@ -6,7 +6,7 @@ use Rattle.cal_base.specs.declared.ends.RunEnd.TheVariants.{StepFailed}
 use Rattle.cal_base.specs.declared.step.WorkerTally.{WorkerTally}
 use Rattle.cal_base.specs.History.{claims_by, is_caller}
 use Rattle.cal_base.specs.Main.{Main, Ends, Shows, Opens, Event, Line, step_event}
-use Rattle.event_world.specs.World.{ClosedStep}
+use Rattle.step_laws.specs.Closed.{ClosedStep}
 use Rattle.engine_laws.specs.Ran.{RunsTo, Here, Shown, Closed, RunsThrough, Ended, Failed, callers_claims}
 use Rattle.worker_gate.specs.Working.{with_claims}
 

@@ -10,7 +10,7 @@ use Rattle.cal_base.specs.Text.{text_of}
 use Rattle.bytecode.specs.declared.module.Module.{Module}
 use Rattle.machine_meaning.specs.Meaning.{main_of}
 use Rattle.routine_vm.specs.Held.{main_state, MayGoOn}
-use Rattle.event_world.specs.World.{ClosedStep}
+use Rattle.step_laws.specs.Closed.{ClosedStep}
 use Rattle.engine_laws.specs.Steps.{TakesUnits}
 use Rattle.engine_laws.specs.Ran.{RunsTo, RunsThrough, callers_claims}
 use Rattle.worker_gate.specs.Working.{WorkerState, MayWork, with_claims}

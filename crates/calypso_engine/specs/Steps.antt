@@ -8,7 +8,7 @@ use Rattle.cal_base.specs.Memory.{Memory}
 use Rattle.cal_base.specs.History.{History, claims_by, is_caller}
 use Rattle.cal_base.specs.Claims.{StepJob, meant}
 use Rattle.bytecode.specs.declared.module.Module.{Module}
-use Rattle.event_world.specs.Law.{IsWhole}
+use Rattle.step_laws.specs.Closed.{IsWhole}
 use Rattle.step_core.specs.Calls.{IsEnd}
 use Rattle.step_core.specs.declared.state.Closed.{Closed}
 use Rattle.engine_laws.specs.Steps.{step_job}

@@ -3,8 +3,8 @@ use Rattle.std.specs.Prelude.{◌≡◌, List, [], ◌∷◌}
 use Rattle.cal_base.specs.declared.step.TheConstants.{CALLER}
 use Rattle.cal_base.specs.declared.step.WorkerTally.{WorkerTally}
 use Rattle.cal_base.specs.Main.{Main, steps_of}
-use Rattle.event_world.specs.World.{ClosedStep}
-use Rattle.event_world.specs.Law.{Each, IsWhole, jobs_in}
+use Rattle.step_laws.specs.Closed.{ClosedStep}
+use Rattle.step_laws.specs.Closed.{Each, IsWhole, jobs_in}
 use Rattle.engine_laws.specs.Ran.{callers_claims}
 use Rattle.worker_gate.specs.Working.{first_tally, with_claims}
 

@@ -7,13 +7,10 @@ use Rattle.cal_base.specs.History.{History}
 use Rattle.cal_base.specs.Claims.{StepJob, merged, meant}
 use Rattle.cal_base.specs.Main.{Main, Ends, Shows, Opens, Line, step_event, going_on, meaning_of, steps_behind, steps_of, IsNumbered}
 use Rattle.step_laws.proofs.StepLaws.{merged_is_meant}
-use Rattle.event_world.specs.World.{ClosedStep}
-use Rattle.event_world.specs.Law.{Each, IsWhole, jobs_in}
+use Rattle.step_laws.specs.Closed.{ClosedStep}
+use Rattle.step_laws.proofs.Closed.{each_push}
+use Rattle.step_laws.specs.Closed.{Each, IsWhole, jobs_in}
 use Rattle.engine_laws.specs.Ran.{Here, Shown, Closed, Ended, Failed, RunsAreMeant, PartsAreMeant, ClosedStepsAreCounted}
-
-each_push : {A : Type 0} (P : A → Type 0) (xs : List A) (x : A) → Each P xs → P x → Each P (xs ++ x ∷ [])
-each_push P [] x all here = (here, tt)
-each_push P (y ∷ xs) x all here = (all.0, each_push P xs x all.1 here)
 
 jobs_push : (closed : List ClosedStep) (step : ClosedStep) → jobs_in (closed ++ step ∷ []) ≡ jobs_in closed ++ step.job ∷ []
 jobs_push [] step = refl

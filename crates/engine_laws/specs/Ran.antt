@@ -7,8 +7,8 @@ use Rattle.cal_base.specs.Memory.{Memory}
 use Rattle.cal_base.specs.History.{History, claims_by, is_caller}
 use Rattle.cal_base.specs.Claims.{StepJob, merged}
 use Rattle.cal_base.specs.Main.{Main, Ends, Shows, Opens, Event, Line, step_event, meaning_of, steps_of, IsNumbered}
-use Rattle.event_world.specs.World.{ClosedStep}
-use Rattle.event_world.specs.Law.{Each, IsWhole, jobs_in}
+use Rattle.step_laws.specs.Closed.{ClosedStep}
+use Rattle.step_laws.specs.Closed.{Each, IsWhole, jobs_in}
 use Rattle.engine_laws.specs.Steps.{TakesUnits}
 
 -- main ran to this rest of it: it showed these events, and closed these steps, each by a legal and complete history, with what its delivered answers leave

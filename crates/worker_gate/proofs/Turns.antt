@@ -11,10 +11,10 @@ use Rattle.cal_base.specs.Claims.{StepJob, size_of, claimed, verdict_on, IsLegal
 use Rattle.step_laws.specs.Laws.{IsRightClaim}
 use Rattle.step_laws.proofs.Histories.{count_by-push}
 use Rattle.step_laws.proofs.StepLaws.{claims_are_right, caller_delivers_first}
-use Rattle.event_world.specs.World.{pair_of, pairs_by, with_pairs, completed}
-use Rattle.event_world.specs.Law.{NoCaller}
-use Rattle.event_world.proofs.Caller.{completed_is_whole}
-use Rattle.step_core.specs.Calls.{after_arrival}
+use Rattle.step_laws.specs.Caller.{pair_of, pairs_by, with_pairs, completed}
+use Rattle.step_laws.specs.Caller.{NoCaller}
+use Rattle.step_laws.proofs.Caller.{completed_is_whole}
+use Rattle.step_laws.specs.Turns.{after_arrival}
 use Rattle.worker_gate.specs.Working.{TookTurn}
 
 -- what is claimed is a number of the step

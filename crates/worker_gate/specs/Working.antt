@@ -9,7 +9,7 @@ use Rattle.cal_base.specs.History.{History}
 use Rattle.cal_base.specs.Claims.{StepJob, claimed}
 use Rattle.bytecode.specs.declared.module.Module.{Module}
 use Rattle.machine_meaning.specs.Meaning.{module_memory}
-use Rattle.event_world.specs.World.{pair_of}
+use Rattle.step_laws.specs.Caller.{pair_of}
 
 -- a worker's tally, how many words it has room for, and what it wrote last
 pub record WorkerState : Type 0 where

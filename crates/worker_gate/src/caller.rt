@@ -3,8 +3,8 @@
 ghost use Rattle.std.specs.Prelude.{◌≡◌, ◌+◌, ◌<◌, ◌≤◌, ◌^◌, if◌then◌else◌};
 ghost use Rattle.cal_base.specs.History.{claims_by, arrivals_by, is_caller};
 ghost use Rattle.cal_base.specs.Claims.{size_of, IsComplete};
-ghost use Rattle.event_world.specs.World.{completed};
-ghost use Rattle.event_world.specs.Law.{NoCaller};
+ghost use Rattle.step_laws.specs.Caller.{completed};
+ghost use Rattle.step_laws.specs.Caller.{NoCaller};
 ghost use Rattle.worker_gate.specs.Working.{MayWork, TookTurn, with_claims};
 
 use crate::job::Job;

@@ -2,7 +2,7 @@ use Rattle.std.proofs.Common.{◌≡◌, ◌+◌, ◌-◌, ℕ, Bool, cond, sym,
 use Rattle.cal_base.specs.declared.step.WorkerTally.{WorkerTally}
 use Rattle.cal_base.specs.History.{History, claims_by, is_caller}
 use Rattle.cal_base.specs.Claims.{size_of}
-use Rattle.event_world.specs.World.{with_pairs, completed}
+use Rattle.step_laws.specs.Caller.{with_pairs, completed}
 use Rattle.worker_gate.specs.Working.{with_claims}
 use Rattle.worker_gate.proofs.Numbers.{size_is}
 use Rattle.worker_gate.proofs.Turns.{turned, ended, whole_complete}

@@ -1,6 +1,6 @@
 use Rattle.std.proofs.Common.{◌≡◌, ◌-◌}
 use Rattle.cal_base.specs.History.{claims_by, arrivals_by, is_caller}
-use Rattle.event_world.specs.World.{with_pairs, completed}
+use Rattle.step_laws.specs.Caller.{with_pairs, completed}
 use Rattle.worker_gate.specs.Working.{with_claims}
 use Rattle.worker_gate.proofs.caller.finish.Given as goal
 
