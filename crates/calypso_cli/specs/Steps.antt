@@ -1,5 +1,5 @@
 -- What the steps below the top call promise.
-use Rattle.std.specs.Prelude.{◌≤◌, ◌<◌, ℕ, List, length, IfSome, IsSomeAnd}
+use Rattle.std.specs.Prelude.{◌≡◌, ◌≤◌, ◌<◌, ℕ, List, length, IfSome, IsSomeAnd}
 use Rattle.std.specs.declared.option.Option.{Option}
 use Rattle.std.specs.Io.KnownBytes.{Appends}
 use Rattle.cal_base.specs.Causes.{Rose}
@@ -19,12 +19,17 @@ Holds told file Fact = IfSome told (λ contents. IsSomeAnd (contents file) Fact)
 abbrev pub ReadsAs : reading.Reading → List ℕ → Type 0
 ReadsAs reading text = (length text ≤ text_limit) × IsRead text reading
 
--- why the load of a program ends the call
-pub data StopsLoad (told : Option Contents) (file : List ℕ) (before after : ℕ) : Ending → Type 0 where
-  no_room : StopsLoad told file before after no_memory
-  not_usable : Rose before after → StopsLoad told file before after (cannot_load file)
-  long : Holds told file (λ text. text_limit < length text) → StopsLoad told file before after (too_long file)
-  not_accepted : (at : ℕ) (why : Refusal) → Holds told file (ReadsAs (reading.refused at why)) → StopsLoad told file before after (refused at why)
+-- the ending of a refused text
+abbrev pub IsRefusal : Ending → Type 0
+IsRefusal ending = (at : ℕ) × (why : Refusal) × (ending ≡ refused at why)
+
+-- why the first load of a command ends the call: by want of memory or a fault, or because the file is too long or its bytes are turned away,
+-- with an ending that they may have
+pub data StopsLoad (told : Option Contents) (file : List ℕ) (limit : ℕ) (May : Ending → Type 0) (TurnsAway : List ℕ → Ending → Type 0) (before after : ℕ) : Ending → Type 0 where
+  no_room : StopsLoad told file limit May TurnsAway before after no_memory
+  not_usable : Rose before after → StopsLoad told file limit May TurnsAway before after (cannot_load file)
+  long : Holds told file (λ bytes. limit < length bytes) → StopsLoad told file limit May TurnsAway before after (too_long file)
+  turned : (ending : Ending) → May ending → Holds told file (λ bytes. (length bytes ≤ limit) × TurnsAway bytes ending) → StopsLoad told file limit May TurnsAway before after ending
 
 -- how work on a program ends the call, and what out got
 pub data EndsWork (work : Work) (old new : Option (List ℕ)) (before after : ℕ) : Ending → Type 0 where

@@ -3,7 +3,9 @@
 ghost use Rattle.std.specs.Prelude.{◌≤◌, IfOk, IfErr};
 ghost use Rattle.cal_base.specs.Contents.{Told, SameFiles};
 ghost use Rattle.csl_reader.specs.Readings as reading;
-ghost use Rattle.calypso_cli.specs.Steps.{Holds, ReadsAs, StopsLoad};
+ghost use Rattle.csl_grammar.specs.Texts.{text_limit};
+ghost use Rattle.calypso_cli.specs.Commands.{IsRefusedText};
+ghost use Rattle.calypso_cli.specs.Steps.{Holds, ReadsAs, IsRefusal, StopsLoad};
 ghost use Rattle.calypso_cli.specs.Seen.{ending_seen};
 
 use crate::Ending;
@@ -23,7 +25,7 @@ pub(crate) fn load_program<'a, F: Files>(
 ) -> Result<Checked, Ending<'a>>
     requires { F.may_load file.now }
     ensures loaded { IfOk result (λ program. Holds (F.holds files.old) file.now (ReadsAs (reading.accepted program))) }
-    ensures stops { IfErr result (λ ending. StopsLoad (F.holds files.old) file.now (F.faults files.old) (F.faults files.new) (ending_seen ending)) }
+    ensures stops { IfErr result (λ ending. StopsLoad (F.holds files.old) file.now text_limit IsRefusal IsRefusedText (F.faults files.old) (F.faults files.new) (ending_seen ending)) }
     ensures files { Told (F.holds files.old) (F.holds files.new) SameFiles }
     ensures later { F.faults files.old ≤ F.faults files.new }
 {

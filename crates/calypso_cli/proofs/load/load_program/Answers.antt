@@ -1,7 +1,10 @@
-use Rattle.std.proofs.Common.{Err, ap, arith, subst}
+use Rattle.std.proofs.Common.{Err, ◌≤◌, length, ap, arith, subst, refl}
+use Rattle.csl_grammar.specs.Texts.{text_limit}
 use Rattle.csl_reader.specs.Errors.{IsRefused}
 use Rattle.csl_reader.specs.Readings as reading
 use Rattle.csl_reader.specs.Readings.{IsRead}
+use Rattle.calypso_cli.specs.Endings.{refused}
+use Rattle.calypso_cli.specs.Commands.{IsRefusedText}
 use Rattle.calypso_cli.specs.Steps as step
 use Rattle.calypso_cli.specs.Steps.{ReadsAs}
 use Rattle.calypso_cli.proofs.Loading.{holds_fact, holds_long}
@@ -23,9 +26,11 @@ returns-in-Ok-read_program-clause-loaded g c =
 
 pub returns-in-Err-Refused-clause-stops : goal.returns-in-Err-Refused-clause-stops
 returns-in-Err-Refused-clause-stops g c =
-    step.not_accepted c.in-Err-Refused.at c.in-Err-Refused.why
-    (holds_fact 1048576 (g.F.Files.holds c.args.files.now) c.args.file.now c.in-Ok.text.items (ReadsAs (reading.refused c.in-Err-Refused.at c.in-Err-Refused.why)) c.in-Ok.ensures.ok (omega arith)
-    (omega arith, subst (λ bytes. IsRead bytes (reading.refused c.in-Err-Refused.at c.in-Err-Refused.why)) c.deref.ensures.value (subst (IsRefused c.deref.result.now) c.in-Err-Refused.field-0-is c.in-Err-Refused.ensures.refused)))
+    let at = c.in-Err-Refused.at in
+    let why = c.in-Err-Refused.why in
+    step.turned (refused at why) (at, why, refl)
+    (holds_fact 1048576 (g.F.Files.holds c.args.files.now) c.args.file.now c.in-Ok.text.items (λ bytes. (length bytes ≤ text_limit) × IsRefusedText bytes (refused at why)) c.in-Ok.ensures.ok (omega arith)
+    (omega arith, (at, why, subst (λ bytes. IsRead bytes (reading.refused at why)) c.deref.ensures.value (subst (IsRefused c.deref.result.now) c.in-Err-Refused.field-0-is c.in-Err-Refused.ensures.refused), refl)))
 
 pub returns-clause-stops : goal.returns-clause-stops
 returns-clause-stops g c = step.no_room
