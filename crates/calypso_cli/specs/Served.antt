@@ -13,8 +13,8 @@ is_served (check file) = true
 is_served (eval file) = true
 is_served (run file flags) = is_usual flags
 is_served (sim file events log) = false
-is_served (build file into) = false
-is_served (exec file flags) = false
+is_served (build file into) = true
+is_served (exec file flags) = is_usual flags
 is_served (gen number size) = false
 is_served (selfrun number size) = false
 

@@ -23,12 +23,8 @@ pub(crate) fn is_served(command: &Command) -> bool
     ensures { result ≡ serving.is_served (command_seen command.now) }
 {
     match command {
-        Command::Check { .. } | Command::Eval { .. } => true,
-        Command::Run { flags, .. } => is_usual(flags),
-        Command::Sim { .. }
-        | Command::Build { .. }
-        | Command::Exec { .. }
-        | Command::Gen { .. }
-        | Command::Selfrun { .. } => false,
+        Command::Check { .. } | Command::Eval { .. } | Command::Build { .. } => true,
+        Command::Run { flags, .. } | Command::Exec { flags, .. } => is_usual(flags),
+        Command::Sim { .. } | Command::Gen { .. } | Command::Selfrun { .. } => false,
     }
 }

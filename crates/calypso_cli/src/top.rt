@@ -11,6 +11,7 @@ ghost use Rattle.calypso_cli.specs.Endings.{no_memory, status_of, err_text};
 
 use crate::Ending;
 use crate::ending::conclude;
+use crate::exec::exec_file;
 use crate::no_threads::plain;
 use crate::run::run_file;
 use crate::served::is_served;
@@ -48,6 +49,7 @@ fn carry_out<'a, F: Files, S: Sink>(
 {
     match command {
         Command::Run { file, flags } => run_file(alloc, file.as_str(), flags, files, out),
+        Command::Exec { module, flags } => exec_file(alloc, module.as_str(), flags, files, out),
         _ => unreachable!(),
     }
 }

@@ -10,6 +10,8 @@ mod commands;
 #[cfg(test)]
 mod fuel;
 #[cfg(test)]
+mod host;
+#[cfg(test)]
 mod refusals;
 #[cfg(test)]
 mod runs;

@@ -13,6 +13,8 @@ mod modules;
 #[cfg(test)]
 mod outside;
 #[cfg(test)]
+mod pages;
+#[cfg(test)]
 mod rules;
 #[cfg(test)]
 mod shared;

@@ -92,7 +92,9 @@ impl Shelf {
         requires room { length self.old.kept < self.old.size }
         requires absent { IsAbsent self.old.kept p }
         requires apart { IsNewFrame self.old.kept frame }
-        ensures kept { self.new ≡ record self.old { kept = self.old.kept ++ record { page = p; version = version; frame = frame } ∷ [] } }
+        ensures kept { self.new ≡ record self.old {
+          kept = self.old.kept ++ record { page = p; version = version; frame = frame } ∷ [];
+        } }
         ensures place { result ≡ length self.old.kept }
     {
         let i = self.kept.len() as u32;
@@ -110,7 +112,9 @@ impl Shelf {
         requires page { p < 4096 }
         requires place { i < length self.old.kept }
         requires absent { MayStandAt self.old.kept p i }
-        ensures { self.new ≡ record self.old { kept = slice_set self.old.kept i (record { page = p; version = version; frame = frame_at self.old.kept i }) } }
+        ensures { self.new ≡ record self.old {
+          kept = slice_set self.old.kept i (record { page = p; version = version; frame = frame_at self.old.kept i });
+        } }
     {
         let kept = &mut self.kept[i as usize];
         let old = kept.page;

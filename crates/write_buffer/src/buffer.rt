@@ -7,7 +7,8 @@ ghost use Rattle.cal_base.specs.Memory.{kinds_of, Memory};
 ghost use Rattle.cal_base.specs.Pages.{page_count};
 ghost use Rattle.frame_pool.specs.Pool.{Pool, free_count};
 ghost use Rattle.cal_base.specs.Updates.{IsNextFrom, IsBelow};
-ghost use Rattle.write_buffer.specs.Buffered.{Buffered, AreOut, AreApart, TakesFrames, GivesFrames, ChangesOwn, AddsToSum, written_of, entry_at, word_in, frame_of};
+ghost use Rattle.write_buffer.specs.Buffered.{AreOut, AreApart, TakesFrames, GivesFrames, ChangesOwn, AddsToSum};
+ghost use Rattle.write_buffer.specs.Buffered.{written_of, word_in, frame_of};
 
 use crate::marks::Marks;
 use cal_base::{Image, NoMemory, Overflow, PAGE, WordKind};
@@ -15,8 +16,8 @@ use frame_pool::{Frame, FramePool};
 use std::alloc::Global;
 use std::marker::Model;
 
-/// A finite map from the addresses of a memory's words to values and sums. Each page has a frame of its own in a pool. All room is taken when
-/// the buffer is made; the frames are given back at the end.
+/// A finite map from the addresses of a memory's words to values and sums. Each page has a frame of its own in a pool. All room is taken
+/// when the buffer is made; the frames are given back at the end.
 pub struct WriteBuffer {
     kinds: Vec<WordKind>,
     marks: Marks,
