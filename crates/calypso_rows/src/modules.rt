@@ -126,15 +126,6 @@ fn modules_by_their_bytes(rt: HostRuntime) -> Result<(), Fail> {
     exec_is(&rt, rt.alloc(), &EMPTY, 0, b"", b"")
 }
 
-#[test]
-fn modules_that_are_too_long(rt: HostRuntime) -> Result<(), Fail> {
-    let alloc = rt.alloc();
-    let longest = vec![in alloc; 0u8; 16_777_216]?;
-    exec_is(&rt, alloc, &longest, 10, b"", b"module refused\n")?;
-    let longer = vec![in alloc; 0u8; 16_777_217]?;
-    exec_is(&rt, alloc, &longer, 9, b"", b"file m: too long\n")
-}
-
 /// Builds a program into `into`, and then runs that file by `exec` with this much fuel. The build leaves out and err as they are.
 fn built_is<R: Threads + Wait + Sync + Abort>(
     rt: &R,
