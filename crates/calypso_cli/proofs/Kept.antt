@@ -36,7 +36,7 @@ pub itself_not : (k : Kind) → k ≡ worked ⊎ k ≡ turned_away → k ≡ wan
 itself_not k (inl e) f = cc
 itself_not k (inr e) f = cc
 
-itself_no_fault : (k : Kind) (part : Part) → k ≡ worked ⊎ k ≡ turned_away → k ≡ failed part → ⊥
+pub itself_no_fault : (k : Kind) (part : Part) → k ≡ worked ⊎ k ≡ turned_away → k ≡ failed part → ⊥
 itself_no_fault k part (inl e) f = cc
 itself_no_fault k part (inr e) f = cc
 
@@ -46,16 +46,16 @@ worked_not_away k e f = cc
 worked_not_memory : (k : Kind) → k ≡ worked → k ≡ wanted_memory → ⊥
 worked_not_memory k e f = cc
 
-worked_not_failed : (k : Kind) (part : Part) → k ≡ worked → k ≡ failed part → ⊥
+pub worked_not_failed : (k : Kind) (part : Part) → k ≡ worked → k ≡ failed part → ⊥
 worked_not_failed k part e f = cc
 
-files_not_out : (part : Part) → failed files ≡ failed part → part ≡ files
+pub files_not_out : (part : Part) → failed files ≡ failed part → part ≡ files
 files_not_out part e = cc
 
 out_not_files : (part : Part) → failed out ≡ failed part → part ≡ out
 out_not_files part e = cc
 
-apart : files ≡ out → ⊥
+pub apart : files ≡ out → ⊥
 apart e = cc
 
 -- nothing was done before out gets anything only where the ending is no work
@@ -83,7 +83,7 @@ pub record LoadsFirst (command : Command) (file : List ℕ) (limit : ℕ) {X : T
   pub can_turn : (ending : Ending) → May ending → CanEnd command ending
 
 -- a count that rose is that of the part that failed
-caused : (before after : Objects) (part other : Part) → Rose (faults_of part before) (faults_of part after) → other ≡ part → Rose (faults_of other before) (faults_of other after)
+pub caused : (before after : Objects) (part other : Part) → Rose (faults_of part before) (faults_of part after) → other ≡ part → Rose (faults_of other before) (faults_of other after)
 caused before after part other rose e = subst (λ p. Rose (faults_of p before) (faults_of p after)) (sym e) rose
 
 -- a command that writes no file, and one whose file is as before

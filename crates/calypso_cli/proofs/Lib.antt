@@ -4,4 +4,6 @@ pub mod Loading
 pub mod Only
 pub mod Readings
 pub mod Kept
+pub mod Written
+pub mod Built
 pub mod Promises

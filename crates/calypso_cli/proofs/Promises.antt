@@ -5,20 +5,22 @@ use Rattle.cal_base.specs.declared.ends.RunEnd.{RunEnd}
 use Rattle.cal_base.specs.declared.ends.RunEnd.TheVariants.{Done, MainFault, StepFailed}
 use Rattle.cal_base.specs.Contents.{Contents, Told, SameFiles}
 use Rattle.csl_meaning.specs.Meaning.{meaning}
-use Rattle.command_words.specs.Commands.{Flags, Command, check, eval, run}
+use Rattle.machine_meaning.specs.Meaning.{machine_meaning}
+use Rattle.bytecode.specs.declared.module.Module.{Module}
+use Rattle.command_words.specs.Commands.{Flags, Command, check, eval, run, exec}
 use Rattle.calypso_cli.specs.Endings.{Part, files, out, Ending, done, no_command, cannot_load, cannot_write, refused, fault, no_memory, output_failed, script_refused, events_refused, too_long, module_refused, kind_of, status_of, err_text}
 use Rattle.csl_tree.specs.declared.program.Program.{Program}
 use Rattle.csl_grammar.specs.Texts.{text_limit}
 use Rattle.csl_reader.proofs.OneWay.{read_one_way}
 use Rattle.csl_reader.specs.Readings.{IsRead}
 use Rattle.csl_reader.specs.Readings as reading
-use Rattle.calypso_cli.specs.Steps.{Holds, ReadsAs, IsRefusal, StopsLoad, EndsWork}
+use Rattle.calypso_cli.specs.Steps.{Holds, ReadsAs, IsRefusal, Spells, IsModuleRefusal, StopsLoad, EndsWork}
 use Rattle.calypso_cli.specs.Outcomes.{Sight, Outcome, Work, Does}
-use Rattle.calypso_cli.specs.Commands.{IsLoaded, LoadsProgram, CanEnd, RunsProgram, IsRefusedText, WithProgram, ComesTo, ended, usual_fuel, run_of, check_of}
+use Rattle.calypso_cli.specs.Commands.{IsLoaded, LoadsProgram, LoadsModule, CanEnd, RunsProgram, IsRefusedText, IsModule, IsNoModule, module_limit, WithProgram, WithModule, ComesTo, ended, usual_fuel, run_of, check_of}
 use Rattle.calypso_cli.specs.Served.{is_usual, is_served, served}
 use Rattle.calypso_cli.specs.Promise.{Objects, Outside, faults_of, CountsStay, Worked, for_memory, Touches, HoldsFront, as_before, HoldsFronts, Sees, Gets, Works, DoesCommand, DoesNothing, KeepsPromise, MayUse, MayDo}
 use Rattle.calypso_cli.proofs.Kept.{LoadsFirst, LoadsOne, does_stop, does_work, itself_not}
-use Rattle.calypso_cli.proofs.Readings.{programs_once}
+use Rattle.calypso_cli.proofs.Readings.{programs_once, modules_once, one_module}
 
 -- files that no call touched hold what they held
 pub same_files : (o : Option Contents) → Told o o SameFiles
@@ -39,7 +41,7 @@ run_worked (StepFailed step failure) = refl
 -- ---- the commands that load one program
 
 -- a command that loads a program first
-loads_program : (command : Command) (file : List ℕ) (Next : Sight → Program → Outcome → Type 0)
+pub loads_program : (command : Command) (file : List ℕ) (Next : Sight → Program → Outcome → Type 0)
     → ((sight : Sight) (outcome : Outcome) → ComesTo command sight outcome → WithProgram sight file (Next sight) outcome)
     → ((sight : Sight) (outcome : Outcome) → WithProgram sight file (Next sight) outcome → ComesTo command sight outcome)
     → IsLoaded command file → LoadsProgram command
@@ -53,9 +55,28 @@ loads_program command file Next comes back loaded_by program = record {
   can_turn = λ ending h. subst (CanEnd command) (sym h.2) program;
 }
 
+-- a command that loads a module first
+loads_module : (command : Command) (file : List ℕ) (Next : Sight → Module → Outcome → Type 0)
+    → ((sight : Sight) (outcome : Outcome) → ComesTo command sight outcome → WithModule sight file (Next sight) outcome)
+    → ((sight : Sight) (outcome : Outcome) → WithModule sight file (Next sight) outcome → ComesTo command sight outcome)
+    → IsLoaded command file → LoadsModule command
+    → LoadsFirst command file module_limit IsModule IsModuleRefusal IsNoModule Next
+loads_module command file Next comes back loaded_by is_module = record {
+  once = modules_once one_module;
+  comes = comes;
+  back = back;
+  loaded_by = loaded_by;
+  turns = λ ending h. ap kind_of h;
+  can_turn = λ ending h. subst (CanEnd command) (sym h) is_module;
+}
+
 -- what is done with the program of a file, and nothing else
 abbrev pub WorksOn : Command → List ℕ → (Program → Work) → Type 0
 WorksOn command file work = LoadsOne command file text_limit (λ bytes p. IsRead bytes (reading.accepted p)) IsRefusal IsRefusedText work
+
+-- what is done with the module in a file, and nothing else
+abbrev pub WorksOnModule : Command → List ℕ → (Module → Work) → Type 0
+WorksOnModule command file work = LoadsOne command file module_limit IsModule IsModuleRefusal IsNoModule work
 
 pub loads_check : (file : List ℕ) → WorksOn (check file) file check_of
 loads_check file = record {
@@ -81,44 +102,58 @@ loads_eval file = record {
   works = λ p. run_worked (meaning p usual_fuel).ending;
 }
 
-abbrev usual : Flags
-usual = record { workers = 4; fuel = 1000000; frames = 64; script = None; log = None; report = false; steps = false }
+abbrev usual : ℕ → Flags
+usual fuel = record { workers = 4; fuel = fuel; frames = 64; script = None; log = None; report = false; steps = false }
 
 some_none : (name : List ℕ) (o : Option (List ℕ)) → o ≡ None → o ≡ Some name → ⊥
 some_none name o e f = cc
 
-loads_usual : (file : List ℕ) → WorksOn (run file usual) file (λ p. run_of false (meaning p usual_fuel))
-loads_usual file = record {
-  first = loads_program (run file usual) file (λ sight p. Does (run_of false (meaning p usual_fuel))) (λ sight outcome h. h) (λ sight outcome h. h) (inl refl) tt;
+loads_usual : (file : List ℕ) (fuel : ℕ) → WorksOn (run file (usual fuel)) file (λ p. run_of false (meaning p fuel))
+loads_usual file fuel = record {
+  first = loads_program (run file (usual fuel)) file (λ sight p. Does (run_of false (meaning p fuel))) (λ sight outcome h. h) (λ sight outcome h. h) (inl refl) tt;
   unwritten = λ name h. some_none name None refl h;
   writes = λ sight. refl;
   reports = λ sight. refl;
   may_report = refl;
   writes_out = tt;
-  can_work = λ p. run_can_end (run file usual) tt (meaning p usual_fuel).ending;
-  works = λ p. run_worked (meaning p usual_fuel).ending;
+  can_work = λ p. run_can_end (run file (usual fuel)) tt (meaning p fuel).ending;
+  works = λ p. run_worked (meaning p fuel).ending;
 }
 
--- options that are as usual
-usual_is : (flags : Flags) → is_usual flags ≡ true → flags ≡ usual
-usual_is flags h = by flags.workers flags.fuel flags.frames flags.script flags.log flags.report flags.steps h where
-  numbers : (w f n : ℕ) → w ≡ 4 → f ≡ 1000000 → n ≡ 64
-      → record { workers = w; fuel = f; frames = n; script = None; log = None; report = false; steps = false } ≡ usual
-  numbers w f n a b c =
-      ap (λ x. record { workers = x; fuel = f; frames = n; script = None; log = None; report = false; steps = false }) a
-      ∙ ap (λ x. record { workers = 4; fuel = x; frames = n; script = None; log = None; report = false; steps = false }) b
-      ∙ ap (λ x. record { workers = 4; fuel = 1000000; frames = x; script = None; log = None; report = false; steps = false }) c
+loads_usual_module : (file : List ℕ) (fuel : ℕ) → WorksOnModule (exec file (usual fuel)) file (λ m. run_of false (machine_meaning m fuel))
+loads_usual_module file fuel = record {
+  first = loads_module (exec file (usual fuel)) file (λ sight m. Does (run_of false (machine_meaning m fuel))) (λ sight outcome h. h) (λ sight outcome h. h) (inl refl) tt;
+  unwritten = λ name h. some_none name None refl h;
+  writes = λ sight. refl;
+  reports = λ sight. refl;
+  may_report = refl;
+  writes_out = tt;
+  can_work = λ m. run_can_end (exec file (usual fuel)) tt (machine_meaning m fuel).ending;
+  works = λ m. run_worked (machine_meaning m fuel).ending;
+}
 
-  by : (w f n : ℕ) (s l : Option (List ℕ)) (r t : Bool) → (w == 4 && (f == 1000000 && (n == 64 && (not (is_some s) && (not (is_some l) && (not r && not t)))))) ≡ true
-      → record { workers = w; fuel = f; frames = n; script = s; log = l; report = r; steps = t } ≡ usual
-  by w f n None None false false h = numbers w f n (grind (arith, h)) (grind (arith, h)) (grind (arith, h))
+-- options that are as usual, but for the fuel
+usual_is : (flags : Flags) → is_usual flags ≡ true → flags ≡ usual flags.fuel
+usual_is flags h = by flags.workers flags.fuel flags.frames flags.script flags.log flags.report flags.steps h where
+  numbers : (w f n : ℕ) → w ≡ 4 → n ≡ 64
+      → record { workers = w; fuel = f; frames = n; script = None; log = None; report = false; steps = false } ≡ usual f
+  numbers w f n a c =
+      ap (λ x. record { workers = x; fuel = f; frames = n; script = None; log = None; report = false; steps = false }) a
+      ∙ ap (λ x. record { workers = 4; fuel = f; frames = x; script = None; log = None; report = false; steps = false }) c
+
+  by : (w f n : ℕ) (s l : Option (List ℕ)) (r t : Bool) → (w == 4 && (n == 64 && (not (is_some s) && (not (is_some l) && (not r && not t))))) ≡ true
+      → record { workers = w; fuel = f; frames = n; script = s; log = l; report = r; steps = t } ≡ usual f
+  by w f n None None false false h = numbers w f n (grind (arith, h)) (grind (arith, h))
   by w f n (Some s) l r t h = absurd (grind (arith, h))
   by w f n None (Some l) r t h = absurd (grind (arith, h))
   by w f n None None true t h = absurd (grind (arith, h))
   by w f n None None false true h = absurd (grind (arith, h))
 
-pub loads_run : (file : List ℕ) (flags : Flags) → is_usual flags ≡ true → WorksOn (run file flags) file (λ p. run_of false (meaning p usual_fuel))
-loads_run file flags h = subst (λ f. WorksOn (run file f) file (λ p. run_of false (meaning p usual_fuel))) (sym (usual_is flags h)) (loads_usual file)
+pub loads_run : (file : List ℕ) (flags : Flags) → is_usual flags ≡ true → WorksOn (run file flags) file (λ p. run_of false (meaning p flags.fuel))
+loads_run file flags h = subst (λ f. WorksOn (run file f) file (λ p. run_of false (meaning p f.fuel))) (sym (usual_is flags h)) (loads_usual file flags.fuel)
+
+pub loads_exec : (file : List ℕ) (flags : Flags) → is_usual flags ≡ true → WorksOnModule (exec file flags) file (λ m. run_of false (machine_meaning m flags.fuel))
+loads_exec file flags h = subst (λ f. WorksOnModule (exec file f) file (λ m. run_of false (machine_meaning m f.fuel))) (sym (usual_is flags h)) (loads_usual_module file flags.fuel)
 
 -- the load of the program ended the call
 pub stops_on : (command : Command) (file : List ℕ) (work : Program → Work) → WorksOn command file work → (before after : Objects) → Told before.files after.files SameFiles → before.out ≡ after.out
@@ -131,6 +166,17 @@ pub works_on : (command : Command) (file : List ℕ) (work : Program → Work) �
     → Holds before.files file (ReadsAs (reading.accepted p)) → {ending : Ending} → EndsWork (work p) before.out after.out before.out_faults after.out_faults ending → Works command before after ending []
 works_on command file work one before after same p holds ends =
     does_work command file text_limit (λ bytes p. IsRead bytes (reading.accepted p)) IsRefusal IsRefusedText work one before after same p holds ends
+
+-- the load of the module, and the work on it, ended the call
+pub module_stops_on : (command : Command) (file : List ℕ) (work : Module → Work) → WorksOnModule command file work → (before after : Objects) → Told before.files after.files SameFiles → before.out ≡ after.out
+    → {ending : Ending} → StopsLoad before.files file module_limit IsModuleRefusal IsNoModule before.file_faults after.file_faults ending → Works command before after ending []
+module_stops_on command file work one before after same kept stops =
+    does_stop command file module_limit IsModule IsModuleRefusal IsNoModule (λ sight m. Does (work m)) one.first before after same kept stops
+
+pub module_works_on : (command : Command) (file : List ℕ) (work : Module → Work) → WorksOnModule command file work → (before after : Objects) → Told before.files after.files SameFiles → (m : Module)
+    → Holds before.files file (Spells m) → {ending : Ending} → EndsWork (work m) before.out after.out before.out_faults after.out_faults ending → Works command before after ending []
+module_works_on command file work one before after same m holds ends =
+    does_work command file module_limit IsModule IsModuleRefusal IsNoModule work one before after same m holds ends
 
 -- ---- nothing was done
 

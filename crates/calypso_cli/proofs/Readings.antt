@@ -5,7 +5,11 @@ use Rattle.csl_reader.specs.declared.refusal.Refusal.{Refusal}
 use Rattle.csl_reader.specs.Readings as reading
 use Rattle.csl_reader.specs.Readings.{Reading, IsRead}
 use Rattle.csl_reader.specs.Laws.{ReadOneWay}
+use Rattle.bytecode.specs.Spelling.{spelling}
+use Rattle.bytecode.specs.Reading.{module_of}
 use Rattle.bytecode.specs.Laws.{OneModulePerBytes}
+use Rattle.bytecode.proofs.Numbers.{some_same}
+use Rattle.bytecode.proofs.Forms.{module_again}
 use Rattle.calypso_cli.specs.Endings.{Ending, refused}
 use Rattle.calypso_cli.specs.Commands.{IsRefusedText, IsModule, IsNoModule}
 use Rattle.calypso_cli.proofs.Only.{ReadsOnce}
@@ -36,3 +40,7 @@ modules_once one_module = record {
   one_ending = λ bytes e f h k. h.1 ∙ sym k.1;
   apart = λ bytes m e h k. k.0 m h;
 }
+
+-- no bytes spell two modules
+pub one_module : OneModulePerBytes
+one_module m n fits_m fits_n e = some_same m n (module_of (spelling m)) (module_again m fits_m) (ap module_of e ∙ module_again n fits_n)

@@ -1,8 +1,12 @@
 //! The command line of Calypso over any files, streams and gate that are handed in.
 #![tactic(auto)]
 
+mod build;
 mod check;
 mod ending;
+mod eval;
+mod exec;
+mod execute;
 pub mod laws;
 mod lines;
 mod load;

@@ -1,21 +1,53 @@
-//! Programs in files.
+//! Programs and modules in files.
 
-ghost use Rattle.std.specs.Prelude.{◌≤◌, IfOk, IfErr};
-ghost use Rattle.cal_base.specs.Contents.{Told, SameFiles};
-ghost use Rattle.csl_reader.specs.Readings as reading;
+ghost use Rattle.std.specs.Prelude.{◌≡◌, ◌⊎◌, ◌≤◌, length, IfOk, IfErr};
+ghost use Rattle.cal_base.specs.Contents.{Told, SameFiles, Loads};
 ghost use Rattle.csl_grammar.specs.Texts.{text_limit};
-ghost use Rattle.calypso_cli.specs.Commands.{IsRefusedText};
-ghost use Rattle.calypso_cli.specs.Steps.{Holds, ReadsAs, IsRefusal, StopsLoad};
+ghost use Rattle.csl_reader.specs.Readings as reading;
+ghost use Rattle.calypso_cli.specs.Commands.{IsRefusedText, IsModule, IsNoModule, module_limit};
+ghost use Rattle.calypso_cli.specs.Endings.{no_memory};
+ghost use Rattle.calypso_cli.specs.Steps.{Holds, ReadsAs, IsRefusal, Spells, IsModuleRefusal, NoEnding, TurnsNoneAway, StopsLoad};
 ghost use Rattle.calypso_cli.specs.Seen.{ending_seen};
 
 use crate::Ending;
+use bytecode::{DecodeError, decode};
 use cal_base::{Files, LoadError};
+use code_verify::{Verified, VerifyError, verify};
 use csl_reader::{ReadError, read_program};
 use std::alloc::Global;
 use type_check::checked::Checked;
 
 /// The longest program, in bytes.
 const PROGRAM_LIMIT: usize = 1_048_576;
+
+/// The longest module, in bytes.
+const MODULE_LIMIT: usize = 16_777_216;
+
+/// The bytes of a file, which are to be no more than the limit, or how the call ends.
+fn load_bytes<'a, F: Files>(
+    alloc: Global,
+    files: &mut F,
+    file: &'a str,
+    limit: usize,
+) -> Result<Vec<u8>, Ending<'a>>
+    requires may_load { F.may_load file.now }
+    requires small { limit ≤ 16777216 }
+    ensures loaded { IfOk result (λ bytes. Loads (F.holds files.old) file.now limit bytes.items) }
+    ensures few { IfOk result (λ bytes. length bytes.items ≤ limit) }
+    ensures stops { IfErr result (λ ending. StopsLoad (F.holds files.old) file.now limit NoEnding TurnsNoneAway (F.faults files.old) (F.faults files.new) (ending_seen ending)) }
+    ensures files { Told (F.holds files.old) (F.holds files.new) SameFiles }
+    ensures later { F.faults files.old ≤ F.faults files.new }
+{
+    let bytes = match files.load(alloc, file, limit) {
+        Ok(bytes) => bytes,
+        Err(LoadError::Failed) => return Err(Ending::CannotLoad(file)),
+        Err(LoadError::NoMemory) => return Err(Ending::NoMemory),
+    };
+    if bytes.len() > limit {
+        return Err(Ending::TooLong(file));
+    }
+    Ok(bytes)
+}
 
 /// The accepted program in a file, or how the call ends.
 pub(crate) fn load_program<'a, F: Files>(
@@ -29,17 +61,48 @@ pub(crate) fn load_program<'a, F: Files>(
     ensures files { Told (F.holds files.old) (F.holds files.new) SameFiles }
     ensures later { F.faults files.old ≤ F.faults files.new }
 {
-    let text = match files.load(alloc, file, PROGRAM_LIMIT) {
+    let text = match load_bytes(alloc, files, file, PROGRAM_LIMIT) {
         Ok(text) => text,
-        Err(LoadError::Failed) => return Err(Ending::CannotLoad(file)),
-        Err(LoadError::NoMemory) => return Err(Ending::NoMemory),
+        Err(ending) => return Err(ending),
     };
-    if text.len() > PROGRAM_LIMIT {
-        return Err(Ending::TooLong(file));
-    }
     match read_program(alloc, &text) {
         Ok(program) => Ok(program),
         Err(ReadError::Refused { at, why }) => Err(Ending::Refused { at, why }),
         Err(ReadError::NoMemory) => Err(Ending::NoMemory),
+    }
+}
+
+/// The verified module that the bytes spell, or how the call ends.
+fn read_module<'a>(alloc: Global, bytes: &[u8]) -> Result<Verified, Ending<'a>>
+    ensures read { IfOk result (λ code. IsModule bytes.now code) }
+    ensures turned { IfErr result (λ ending. (ending_seen ending ≡ no_memory) ⊎ IsNoModule bytes.now (ending_seen ending)) }
+{
+    let module = match decode(alloc, bytes) {
+        Ok(module) => module,
+        Err(DecodeError::Refused) => return Err(Ending::ModuleRefused),
+        Err(DecodeError::NoMemory) => return Err(Ending::NoMemory),
+    };
+    match verify(alloc, module) {
+        Ok(code) => Ok(code),
+        Err(VerifyError::Refused) => Err(Ending::ModuleRefused),
+        Err(VerifyError::NoMemory) => Err(Ending::NoMemory),
+    }
+}
+
+/// The verified module in a file, or how the call ends.
+pub(crate) fn load_module<'a, F: Files>(
+    alloc: Global,
+    files: &mut F,
+    file: &'a str,
+) -> Result<Verified, Ending<'a>>
+    requires { F.may_load file.now }
+    ensures loaded { IfOk result (λ code. Holds (F.holds files.old) file.now (Spells code)) }
+    ensures stops { IfErr result (λ ending. StopsLoad (F.holds files.old) file.now module_limit IsModuleRefusal IsNoModule (F.faults files.old) (F.faults files.new) (ending_seen ending)) }
+    ensures files { Told (F.holds files.old) (F.holds files.new) SameFiles }
+    ensures later { F.faults files.old ≤ F.faults files.new }
+{
+    match load_bytes(alloc, files, file, MODULE_LIMIT) {
+        Ok(bytes) => read_module(alloc, &bytes),
+        Err(ending) => Err(ending),
     }
 }

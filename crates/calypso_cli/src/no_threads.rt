@@ -8,9 +8,10 @@ ghost use Rattle.calypso_cli.specs.Promise.{objects_of, MayUse, MayDo, Works, Ke
 ghost use Rattle.calypso_cli.specs.Seen.{ending_seen};
 
 use crate::Ending;
+use crate::build::build_file;
 use crate::check::check_file;
 use crate::ending::conclude;
-use crate::run::run_file;
+use crate::eval::eval_file;
 use crate::served::is_served;
 use cal_base::{Files, Sink};
 use command_words::Command;
@@ -35,7 +36,10 @@ fn carry_out<'a, F: Files, S: Sink>(
 {
     match command {
         Command::Check { file } => check_file(alloc, file.as_str(), files, out),
-        Command::Eval { file } => run_file(alloc, file.as_str(), files, out),
+        Command::Eval { file } => eval_file(alloc, file.as_str(), files, out),
+        Command::Build { file, module } => {
+            build_file(alloc, file.as_str(), module.as_str(), files)
+        }
         _ => unreachable!(),
     }
 }

@@ -6,12 +6,11 @@ ghost use Rattle.calypso_cli.specs.Served as serving;
 
 use command_words::{Command, Flags};
 
-/// Whether no option of a run is there, or each says what holds without it.
+/// Whether no option of a run but its fuel is there, or each says what holds without it.
 fn is_usual(flags: &Flags) -> bool
     ensures { result ≡ serving.is_usual (flags_seen flags.now) }
 {
     flags.workers == 4
-        && flags.fuel == 1_000_000
         && flags.frames == 64
         && flags.script.is_none()
         && flags.log.is_none()
@@ -24,12 +23,8 @@ pub(crate) fn is_served(command: &Command) -> bool
     ensures { result ≡ serving.is_served (command_seen command.now) }
 {
     match command {
-        Command::Check { .. } | Command::Eval { .. } => true,
-        Command::Run { flags, .. } => is_usual(flags),
-        Command::Sim { .. }
-        | Command::Build { .. }
-        | Command::Exec { .. }
-        | Command::Gen { .. }
-        | Command::Selfrun { .. } => false,
+        Command::Check { .. } | Command::Eval { .. } | Command::Build { .. } => true,
+        Command::Run { flags, .. } | Command::Exec { flags, .. } => is_usual(flags),
+        Command::Sim { .. } | Command::Gen { .. } | Command::Selfrun { .. } => false,
     }
 }

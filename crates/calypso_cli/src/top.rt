@@ -11,6 +11,7 @@ ghost use Rattle.calypso_cli.specs.Endings.{no_memory, status_of, err_text};
 
 use crate::Ending;
 use crate::ending::conclude;
+use crate::exec::exec_file;
 use crate::no_threads::plain;
 use crate::run::run_file;
 use crate::served::is_served;
@@ -29,7 +30,7 @@ pub fn out_of_memory<E: Sink>(err: &mut E) -> u8
     conclude(Ending::NoMemory, err)
 }
 
-/// Does what a served command asks for that runs worker threads. `run` needs none yet.
+/// Does what a served command asks for that is to run worker threads. None of them starts any yet.
 fn carry_out<'a, F: Files, S: Sink>(
     alloc: Global,
     command: &'a Command,
@@ -47,7 +48,8 @@ fn carry_out<'a, F: Files, S: Sink>(
     ensures out_later { S.faults out.old ≤ S.faults out.new }
 {
     match command {
-        Command::Run { file, .. } => run_file(alloc, file.as_str(), files, out),
+        Command::Run { file, flags } => run_file(alloc, file.as_str(), flags, files, out),
+        Command::Exec { module, flags } => exec_file(alloc, module.as_str(), flags, files, out),
         _ => unreachable!(),
     }
 }

@@ -117,14 +117,11 @@ fn statuses(rt: HostRuntime) -> Result<(), Fail> {
 
 #[test]
 fn commands_that_are_not_served(rt: HostRuntime) -> Result<(), Fail> {
-    let lists: [&[&str]; 14] = [
+    let lists: [&[&str]; 13] = [
         &["sim", "p.csl", "e"],
-        &["build", "p.csl", "m"],
-        &["exec", "p.csl"],
         &["gen", "7", "1"],
         &["selfrun", "7", "1"],
         &["run", "p.csl", "--workers", "1"],
-        &["run", "p.csl", "--fuel", "5"],
         &["run", "p.csl", "--frames", "2"],
         &["run", "p.csl", "--script", "s"],
         &["run", "p.csl", "--log", "l"],
@@ -132,6 +129,8 @@ fn commands_that_are_not_served(rt: HostRuntime) -> Result<(), Fail> {
         &["run", "p.csl", "--steps"],
         &["sim", "p.csl", "p.csl", "--log=l"],
         &["exec", "p.csl", "--steps"],
+        &["exec", "p.csl", "--fuel", "5", "--report"],
+        &["exec", "p.csl", "--workers", "1"],
     ];
     for list in lists {
         let called = call_failing(&rt, rt.alloc(), list, GOOD, (0, 0, 0))?;
@@ -139,14 +138,7 @@ fn commands_that_are_not_served(rt: HostRuntime) -> Result<(), Fail> {
         assert_eq!(rt; called.out.bytes(), b"".as_slice());
         assert_eq!(rt; called.status, 2);
     }
-    let usual = [
-        "run",
-        "--workers=4",
-        "p.csl",
-        "--fuel",
-        "1000000",
-        "--frames=64",
-    ];
+    let usual = ["run", "--workers=4", "p.csl", "--fuel", "5", "--frames=64"];
     let called = call_failing(&rt, rt.alloc(), &usual, GOOD, (0, 0, 0))?;
     assert_eq!(rt; called.out.bytes(), b"1\n2\n".as_slice());
     assert_eq!(rt; called.status, 0);

@@ -4,7 +4,7 @@ use Rattle.calypso_cli.specs.Commands.{ended, run_of, usual_fuel}
 use Rattle.calypso_cli.specs.Seen.{ending_seen}
 use Rattle.calypso_cli.specs.Steps as step
 use Rattle.calypso_cli.proofs.Kept.{ends_whole}
-use Rattle.calypso_cli.proofs.run.evaluate.Goals as goal
+use Rattle.calypso_cli.proofs.eval.evaluate.Goals as goal
 
 pub returns-in-Ok-clause-ends : goal.returns-in-Ok-clause-ends
 returns-in-Ok-clause-ends g c =
