@@ -12,6 +12,8 @@ mod fuel;
 #[cfg(test)]
 mod host;
 #[cfg(test)]
+mod modules;
+#[cfg(test)]
 mod refusals;
 #[cfg(test)]
 mod runs;
