@@ -7,7 +7,6 @@ ghost use Rattle.cal_base.specs.declared.value.Store.TheVariants.{Routine};
 ghost use Rattle.cal_base.specs.Stores.{base_of};
 
 use cal_base::{Image, NoMemory, Overflow, UpdateWords, WordKind, Words};
-use cal_terms::limits::MOST_WORDS;
 use std::alloc::Global;
 use std::marker::Model;
 
@@ -21,6 +20,7 @@ pub struct PlainWords<'a> {
 
 impl<'a> Model for PlainWords<'a> {
     ghost use Rattle.std.specs.Prelude.{◌≡◌, ◌≤◌, length};
+    ghost use Rattle.cal_terms.specs.declared.limits.TheConstants.{MOST_WORDS};
     ghost use Rattle.plain_words.specs.Own.{Own};
     ghost use Rattle.cal_base.specs.Entries.{own_from};
 

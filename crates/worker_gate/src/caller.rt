@@ -2,15 +2,30 @@
 
 ghost use Rattle.std.specs.Prelude.{◌≡◌, ◌+◌, ◌<◌, ◌≤◌, ◌^◌, if◌then◌else◌};
 ghost use Rattle.cal_base.specs.History.{claims_by, arrivals_by, is_caller};
-ghost use Rattle.cal_base.specs.Claims.{size_of, IsComplete};
+ghost use Rattle.cal_base.specs.Claims.{size_of, verdict_on, IsComplete};
 ghost use Rattle.step_laws.specs.Caller.{completed};
 ghost use Rattle.step_laws.specs.Caller.{NoCaller};
+ghost use Rattle.step_laws.specs.Turns.{after_arrival};
 ghost use Rattle.worker_gate.specs.Working.{MayWork, TookTurn, with_claims};
 
+use crate::execution::execute;
 use crate::job::Job;
 use crate::worker::Worker;
-use cal_base::{CALLER, Claimed, JobName};
-use step_core::{Core, Finished};
+use cal_base::{CALLER, Claimed, JobName, Verdict};
+use step_core::Core;
+
+/// The caller executes routine k and delivers its answer.
+fn deliver<N: JobName>(worker: &mut Worker, job: &Job<'_, N>, k: u32, core: &mut Core<N>) -> Verdict
+    requires number { k < size_of N.job }
+    requires may { MayWork worker.old job.now.image.now.memory job.now.code.now }
+    requires arrivals { arrivals_by is_caller core.old < size_of N.job }
+    ensures verdict { result ≡ verdict_on N.job core.old CALLER N.job.number k }
+    ensures history { core.new ≡ after_arrival core.old CALLER N.job.number k result }
+    ensures worker { worker.new ≡ record worker.old { written = worker.new.written } }
+{
+    let done = execute(worker, job, k);
+    core.arrive(CALLER, &done)
+}
 
 /// One turn of the caller: it claims, executes and delivers, or nothing is wanted any more.
 fn turn<N: JobName>(worker: &mut Worker, job: &Job<'_, N>, core: &mut Core<N>) -> bool
@@ -25,9 +40,7 @@ fn turn<N: JobName>(worker: &mut Worker, job: &Job<'_, N>, core: &mut Core<N>) -
     let Claimed::Work(k) = core.claim(CALLER) else {
         return false;
     };
-    let ended = worker.run(job, k);
-    let done = Finished::of(k, ended, worker.view());
-    core.arrive(CALLER, &done);
+    deliver(worker, job, k, core);
     worker.count();
     true
 }
