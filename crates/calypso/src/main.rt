@@ -9,6 +9,7 @@ use std::process::ExitCode;
 use std::rt::Env;
 
 /// The environment without the program's own name among the arguments: the name need not be text.
+#[derive(Drop)]
 struct Unnamed<'a>(&'a HostRuntime);
 
 impl Env for Unnamed<'_> {
