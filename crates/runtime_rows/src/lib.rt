@@ -18,3 +18,5 @@ mod pages;
 mod rules;
 #[cfg(test)]
 mod shared;
+#[cfg(test)]
+mod steps;
