@@ -1,0 +1,6 @@
+pub mod Counts
+pub mod LineCuts
+pub mod Numbers
+pub mod EventLists
+pub mod ScriptParts
+pub mod WorkedScripts
