@@ -1,6 +1,7 @@
 -- What a command promises follows from what its first load and its work ensure.
 use Rattle.std.proofs.Common.{◌≡◌, ◌⊎◌, ◌≤◌, ◌<◌, ℕ, List, [], length, Option, Some, None, refl, sym, ap, ◌∙◌, subst, arith, inl, inr}
 use Rattle.std.specs.Prelude.{IsSomeAnd}
+use Rattle.std.specs.List.{Contains}
 use Rattle.std.specs.Io.KnownBytes.{Appends}
 use Rattle.std.proofs.KnownBytes.{Appends-nil}
 use Rattle.cal_base.specs.Causes.{Rose, IsQuiet}
@@ -14,7 +15,7 @@ use Rattle.calypso_cli.specs.Commands.{IsLoaded, IsWritten, WritesOut, CanEnd, C
 use Rattle.calypso_cli.specs.Steps as step
 use Rattle.calypso_cli.specs.Steps.{Holds, StopsLoad, EndsWork, whole, out_failed}
 use Rattle.calypso_cli.specs.Promise.{Objects, faults_of, Worked, WasTurnedAway, as_it_comes, for_memory, at_a_file, at_out, Touches, HoldsWritten, HoldsFront, as_before, HoldsFronts, EndsByItself, CanWork, RunsAs, OnSight, Sees, Works}
-use Rattle.calypso_cli.proofs.Fronts.{whole_front}
+use Rattle.run_report.proofs.Fronts.{whole_front}
 use Rattle.calypso_cli.proofs.Only.{ReadsOnce, only_loaded, only_turned, only_long, is_reached}
 
 -- the bytes that a file holds, where the files tell it
@@ -40,7 +41,7 @@ pub itself_no_fault : (k : Kind) (part : Part) → k ≡ worked ⊎ k ≡ turned
 itself_no_fault k part (inl e) f = cc
 itself_no_fault k part (inr e) f = cc
 
-worked_not_away : (k : Kind) → k ≡ worked → k ≡ turned_away → ⊥
+pub worked_not_away : (k : Kind) → k ≡ worked → k ≡ turned_away → ⊥
 worked_not_away k e f = cc
 
 worked_not_memory : (k : Kind) → k ≡ worked → k ≡ wanted_memory → ⊥
@@ -52,14 +53,14 @@ worked_not_failed k part e f = cc
 pub files_not_out : (part : Part) → failed files ≡ failed part → part ≡ files
 files_not_out part e = cc
 
-out_not_files : (part : Part) → failed out ≡ failed part → part ≡ out
+pub out_not_files : (part : Part) → failed out ≡ failed part → part ≡ out
 out_not_files part e = cc
 
 pub apart : files ≡ out → ⊥
 apart e = cc
 
 -- nothing was done before out gets anything only where the ending is no work
-before_not_worked : (e : Ending) → IsBeforeWork e → Worked e → ⊥
+pub before_not_worked : (e : Ending) → IsBeforeWork e → Worked e → ⊥
 before_not_worked done h w = h
 before_not_worked no_command h w = cc
 before_not_worked (cannot_load name) h w = cc
@@ -87,7 +88,7 @@ pub caused : (before after : Objects) (part other : Part) → Rose (faults_of pa
 caused before after part other rose e = subst (λ p. Rose (faults_of p before) (faults_of p after)) (sym e) rose
 
 -- a command that writes no file, and one whose file is as before
-touches : (command : Command) (a b : Option Contents) (ending : Ending) → Told a b SameFiles → Told a b (Touches command ending)
+pub touches : (command : Command) (a b : Option Contents) (ending : Ending) → Told a b SameFiles → Told a b (Touches command ending)
 touches command None b ending h = tt
 touches command (Some m) None ending h = absurd h
 touches command (Some m) (Some n) ending h = record { others = λ name no. h name; turned_away = λ r. h }
@@ -103,6 +104,93 @@ kept_fronts command sight (Some m) (Some n) e h = λ name written.
 nothing : (a : Option (List ℕ)) (text : List ℕ) → AppendsPrefix a a text
 nothing a text = ([], refl, Appends-nil a)
 
+-- ---- a load ends the call
+
+module _ (command : Command) (before after : Objects) (same : Told before.files after.files SameFiles) (kept : before.out ≡ after.out)
+    (sees : (sight : Sight) → Sees command before.files sight → before.files ≡ Some sight.files) where
+  quiet_out : Appends before.out after.out []
+  quiet_out = subst (λ o. Appends before.out o []) kept (Appends-nil before.out)
+
+  no_front : (text : List ℕ) → AppendsPrefix before.out after.out text
+  no_front text = subst (λ o. AppendsPrefix before.out o text) kept (nothing before.out text)
+
+  -- what is told of the files, where the command did no work
+  on_sight : (ending : Ending) → (Worked ending → ⊥) → (kind_of ending ≡ failed out → ⊥)
+      → ((sight : Sight) → before.files ≡ Some sight.files → EndsByItself ending → (outcome : Outcome) × ComesTo command sight outcome × (ending ≡ outcome.ending))
+      → ((sight : Sight) → before.files ≡ Some sight.files → (outcome : Outcome) → ComesTo command sight outcome → RunsAs outcome before after ending)
+      → (sight : Sight) → Sees command before.files sight → OnSight command sight before after ending []
+  on_sight ending idle no_out comes runs sight seen = let is : before.files ≡ Some sight.files = sees sight seen in record {
+    comes = comes sight is;
+    fails = λ f. absurd (no_out f);
+    wrote = inl quiet_out;
+    runs = runs sight is;
+    tells = λ did. absurd (idle did);
+    fronts = kept_fronts command sight before.files after.files is same;
+  }
+
+  -- the bytes were turned away, or are too many: the command comes to that
+  pub stops_turned : (ending : Ending) → WasTurnedAway ending → CanEnd command ending → (there : Outcome) → there.ending ≡ ending
+      → ((sight : Sight) → before.files ≡ Some sight.files → ComesTo command sight there)
+      → ((sight : Sight) → before.files ≡ Some sight.files → (outcome : Outcome) → ComesTo command sight outcome → outcome ≡ there)
+      → Works command before after ending []
+  stops_turned ending away can there ends comes only = record {
+    can_end = can;
+    causes = λ part f. absurd (itself_no_fault (kind_of ending) part (inr away) f);
+    reports = λ did. absurd (worked_not_away (kind_of ending) did away);
+    silent = λ no. refl;
+    unwritten = λ h. quiet_out;
+    out_kept = λ h. quiet_out;
+    files = touches command before.files after.files ending same;
+    told = on_sight ending (λ did. worked_not_away (kind_of ending) did away) (λ f. itself_no_fault (kind_of ending) out (inr away) f)
+        (λ sight is itself. (there, comes sight is, sym ends))
+        (λ sight is outcome goes. let e : ending ≡ outcome.ending = sym (ap (λ o. o.ending) (only sight is outcome goes) ∙ ends) in record {
+          ends = as_it_comes ending e;
+          text = λ did. absurd (worked_not_away (kind_of ending) did away);
+          front = no_front outcome.text;
+          complete = λ quiet. inr e;
+        });
+  }
+
+  -- memory was wanted
+  pub stops_memory : Works command before after no_memory []
+  stops_memory = record {
+    can_end = tt;
+    causes = λ part f. absurd (cc);
+    reports = λ did. absurd (cc);
+    silent = λ no. refl;
+    unwritten = λ h. quiet_out;
+    out_kept = λ h. quiet_out;
+    files = touches command before.files after.files no_memory same;
+    told = on_sight no_memory (λ did. cc) (λ f. cc) (λ sight is itself. absurd (itself_not (kind_of no_memory) itself refl))
+        (λ sight is outcome goes. record {
+          ends = for_memory;
+          text = λ did. absurd (cc);
+          front = no_front outcome.text;
+          complete = λ quiet. inl refl;
+        });
+  }
+
+  -- the file could not be loaded, which the command reaches
+  pub stops_unusable : (file : List ℕ) → IsLoaded command file → Rose before.file_faults after.file_faults
+      → ((sight : Sight) → before.files ≡ Some sight.files → (outcome : Outcome) → ComesTo command sight outcome → Contains outcome.reached (loads file))
+      → Works command before after (cannot_load file) []
+  stops_unusable file loaded_by rose reached = record {
+    can_end = loaded_by;
+    causes = λ part f. caused before after files part rose (files_not_out part f);
+    reports = λ did. absurd (cc);
+    silent = λ no. refl;
+    unwritten = λ h. quiet_out;
+    out_kept = λ h. quiet_out;
+    files = touches command before.files after.files (cannot_load file) same;
+    told = on_sight (cannot_load file) (λ did. cc) (λ f. apart (sym (files_not_out out f))) (λ sight is itself. absurd (itself_no_fault (failed files) files itself refl))
+        (λ sight is outcome goes. record {
+          ends = at_a_file (loads file) (reached sight is outcome goes);
+          text = λ did. absurd (cc);
+          front = no_front outcome.text;
+          complete = λ quiet. absurd (quiet_not_rose before.file_faults after.file_faults (quiet files) rose);
+        });
+  }
+
 -- ---- the first load ends the call
 
 module _ (command : Command) (file : List ℕ) (limit : ℕ) {X : Type 0} (Reads : List ℕ → X → Type 0) (May : Ending → Type 0) (TurnsAway : List ℕ → Ending → Type 0)
@@ -113,83 +201,22 @@ module _ (command : Command) (file : List ℕ) (limit : ℕ) {X : Type 0} (Reads
   told_by told sight (inr (none, loads_none)) = absurd (loads_none file first.loaded_by)
 
   module _ (before after : Objects) (same : Told before.files after.files SameFiles) (kept : before.out ≡ after.out) where
-    quiet_out : Appends before.out after.out []
-    quiet_out = subst (λ o. Appends before.out o []) kept (Appends-nil before.out)
-
-    no_front : (text : List ℕ) → AppendsPrefix before.out after.out text
-    no_front text = subst (λ o. AppendsPrefix before.out o text) kept (nothing before.out text)
-
-    -- what is told of the files, where the command did no work
-    on_sight : (ending : Ending) → (Worked ending → ⊥) → (kind_of ending ≡ failed out → ⊥)
-        → ((sight : Sight) → before.files ≡ Some sight.files → EndsByItself ending → (outcome : Outcome) × ComesTo command sight outcome × (ending ≡ outcome.ending))
-        → ((sight : Sight) → before.files ≡ Some sight.files → (outcome : Outcome) → ComesTo command sight outcome → RunsAs outcome before after ending)
-        → (sight : Sight) → Sees command before.files sight → OnSight command sight before after ending []
-    on_sight ending idle no_out comes runs sight sees = let is : before.files ≡ Some sight.files = told_by before.files sight sees in record {
-      comes = comes sight is;
-      fails = λ f. absurd (no_out f);
-      wrote = inl quiet_out;
-      runs = runs sight is;
-      tells = λ did. absurd (idle did);
-      fronts = kept_fronts command sight before.files after.files is same;
-    }
-
     -- the bytes were turned away, or are too many
     turned_at : (ending : Ending) → WasTurnedAway ending → CanEnd command ending
         → ((sight : Sight) → before.files ≡ Some sight.files → Loads file limit Reads TurnsAway (Next sight) (sight.files file) (stopped file ending))
         → ((sight : Sight) → before.files ≡ Some sight.files → (outcome : Outcome) → Loads file limit Reads TurnsAway (Next sight) (sight.files file) outcome → outcome ≡ stopped file ending)
         → Works command before after ending []
-    turned_at ending away can comes only = record {
-      can_end = can;
-      causes = λ part f. absurd (itself_no_fault (kind_of ending) part (inr away) f);
-      reports = λ did. absurd (worked_not_away (kind_of ending) did away);
-      silent = λ no. refl;
-      unwritten = λ h. quiet_out;
-      out_kept = λ h. quiet_out;
-      files = touches command before.files after.files ending same;
-      told = on_sight ending (λ did. worked_not_away (kind_of ending) did away) (λ f. itself_no_fault (kind_of ending) out (inr away) f)
-          (λ sight is itself. (stopped file ending, first.back sight (stopped file ending) (comes sight is), refl))
-          (λ sight is outcome goes. let e : outcome ≡ stopped file ending = only sight is outcome (first.comes sight outcome goes) in record {
-            ends = as_it_comes ending (sym (ap (λ o. o.ending) e));
-            text = λ did. absurd (worked_not_away (kind_of ending) did away);
-            front = no_front outcome.text;
-            complete = λ quiet. inr (sym (ap (λ o. o.ending) e));
-          });
-    }
+    turned_at ending away can comes only =
+        stops_turned command before after same kept (told_by before.files) ending away can (stopped file ending) refl
+        (λ sight is. first.back sight (stopped file ending) (comes sight is))
+        (λ sight is outcome goes. only sight is outcome (first.comes sight outcome goes))
 
     -- how the first load ended the call
     pub does_stop : {ending : Ending} → StopsLoad before.files file limit May TurnsAway before.file_faults after.file_faults ending → Works command before after ending []
-    does_stop step.no_room = record {
-      can_end = tt;
-      causes = λ part f. absurd (cc);
-      reports = λ did. absurd (cc);
-      silent = λ no. refl;
-      unwritten = λ h. quiet_out;
-      out_kept = λ h. quiet_out;
-      files = touches command before.files after.files no_memory same;
-      told = on_sight no_memory (λ did. cc) (λ f. cc) (λ sight is itself. absurd (itself_not (kind_of no_memory) itself refl))
-          (λ sight is outcome goes. record {
-            ends = for_memory;
-            text = λ did. absurd (cc);
-            front = no_front outcome.text;
-            complete = λ quiet. inl refl;
-          });
-    }
-    does_stop (step.not_usable rose) = record {
-      can_end = first.loaded_by;
-      causes = λ part f. caused before after files part rose (files_not_out part f);
-      reports = λ did. absurd (cc);
-      silent = λ no. refl;
-      unwritten = λ h. quiet_out;
-      out_kept = λ h. quiet_out;
-      files = touches command before.files after.files (cannot_load file) same;
-      told = on_sight (cannot_load file) (λ did. cc) (λ f. apart (sym (files_not_out out f))) (λ sight is itself. absurd (itself_no_fault (failed files) files itself refl))
-          (λ sight is outcome goes. record {
-            ends = at_a_file (loads file) (is_reached file limit Reads TurnsAway (Next sight) first.once (first.comes sight outcome goes));
-            text = λ did. absurd (cc);
-            front = no_front outcome.text;
-            complete = λ quiet. absurd (quiet_not_rose before.file_faults after.file_faults (quiet files) rose);
-          });
-    }
+    does_stop step.no_room = stops_memory command before after same kept (told_by before.files)
+    does_stop (step.not_usable rose) =
+        stops_unusable command before after same kept (told_by before.files) file first.loaded_by rose
+        (λ sight is outcome goes. is_reached file limit Reads TurnsAway (Next sight) first.once (first.comes sight outcome goes))
     does_stop (step.long holds) =
         turned_at (too_long file) refl first.loaded_by
         (λ sight is. let h = held before.files sight.files file (λ bytes. limit < length bytes) is holds in

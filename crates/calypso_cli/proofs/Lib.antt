@@ -1,4 +1,3 @@
-pub mod Fronts
 pub mod FaultLines
 pub mod Loading
 pub mod Only
@@ -7,3 +6,10 @@ pub mod Kept
 pub mod Written
 pub mod Built
 pub mod Promises
+pub mod Logged
+pub mod Ran
+pub mod Alone
+pub mod Texts
+pub mod Runs
+pub mod Scripted
+pub mod Executed

@@ -1,13 +1,12 @@
 -- The promise of the top call follows from what carrying out the command ensures.
-use Rattle.std.proofs.Common.{◌≡◌, ◌⊎◌, ◌≤◌, ◌==◌, ◌&&◌, ℕ, Bool, true, false, not, List, [], Option, Some, None, is_some, if◌then◌else◌, refl, sym, ap, ◌∙◌, subst, arith, inl, inr, append-nil}
+use Rattle.std.proofs.Common.{◌≡◌, ◌⊎◌, ◌≤◌, ◌++◌, ℕ, Bool, true, false, List, [], Option, Some, None, if◌then◌else◌, refl, sym, ap, ◌∙◌, subst, arith, inl, inr, append-nil}
 use Rattle.std.proofs.KnownBytes.{Appends-nil}
 use Rattle.cal_base.specs.declared.ends.RunEnd.{RunEnd}
 use Rattle.cal_base.specs.declared.ends.RunEnd.TheVariants.{Done, MainFault, StepFailed}
 use Rattle.cal_base.specs.Contents.{Contents, Told, SameFiles}
 use Rattle.csl_meaning.specs.Meaning.{meaning}
-use Rattle.machine_meaning.specs.Meaning.{machine_meaning}
 use Rattle.bytecode.specs.declared.module.Module.{Module}
-use Rattle.command_words.specs.Commands.{Flags, Command, check, eval, run, exec}
+use Rattle.command_words.specs.Commands.{Command, check, eval}
 use Rattle.calypso_cli.specs.Endings.{Part, files, out, Ending, done, no_command, cannot_load, cannot_write, refused, fault, no_memory, output_failed, script_refused, events_refused, too_long, module_refused, kind_of, status_of, err_text}
 use Rattle.csl_tree.specs.declared.program.Program.{Program}
 use Rattle.csl_grammar.specs.Texts.{text_limit}
@@ -17,7 +16,7 @@ use Rattle.csl_reader.specs.Readings as reading
 use Rattle.calypso_cli.specs.Steps.{Holds, ReadsAs, IsRefusal, Spells, IsModuleRefusal, StopsLoad, EndsWork}
 use Rattle.calypso_cli.specs.Outcomes.{Sight, Outcome, Work, Does}
 use Rattle.calypso_cli.specs.Commands.{IsLoaded, LoadsProgram, LoadsModule, CanEnd, RunsProgram, IsRefusedText, IsModule, IsNoModule, module_limit, WithProgram, WithModule, ComesTo, ended, usual_fuel, run_of, check_of}
-use Rattle.calypso_cli.specs.Served.{is_usual, is_served, served}
+use Rattle.calypso_cli.specs.Served.{is_served, served}
 use Rattle.calypso_cli.specs.Promise.{Objects, Outside, faults_of, CountsStay, Worked, for_memory, Touches, HoldsFront, as_before, HoldsFronts, Sees, Gets, Works, DoesCommand, DoesNothing, KeepsPromise, MayUse, MayDo}
 use Rattle.calypso_cli.proofs.Kept.{LoadsFirst, LoadsOne, does_stop, does_work, itself_not}
 use Rattle.calypso_cli.proofs.Readings.{programs_once, modules_once, one_module}
@@ -28,12 +27,12 @@ same_files None = tt
 same_files (Some contents) = λ name. refl
 
 -- a run ends as it can, and did its work
-run_can_end : (command : Command) → RunsProgram command → (e : RunEnd) → CanEnd command (ended e)
+pub run_can_end : (command : Command) → RunsProgram command → (e : RunEnd) → CanEnd command (ended e)
 run_can_end command runs (Done steps) = tt
 run_can_end command runs (MainFault after cause) = (runs, refl)
 run_can_end command runs (StepFailed step failure) = (runs, refl)
 
-run_worked : (e : RunEnd) → Worked (ended e)
+pub run_worked : (e : RunEnd) → Worked (ended e)
 run_worked (Done steps) = refl
 run_worked (MainFault after cause) = refl
 run_worked (StepFailed step failure) = refl
@@ -56,7 +55,7 @@ loads_program command file Next comes back loaded_by program = record {
 }
 
 -- a command that loads a module first
-loads_module : (command : Command) (file : List ℕ) (Next : Sight → Module → Outcome → Type 0)
+pub loads_module : (command : Command) (file : List ℕ) (Next : Sight → Module → Outcome → Type 0)
     → ((sight : Sight) (outcome : Outcome) → ComesTo command sight outcome → WithModule sight file (Next sight) outcome)
     → ((sight : Sight) (outcome : Outcome) → WithModule sight file (Next sight) outcome → ComesTo command sight outcome)
     → IsLoaded command file → LoadsModule command
@@ -73,10 +72,6 @@ loads_module command file Next comes back loaded_by is_module = record {
 -- what is done with the program of a file, and nothing else
 abbrev pub WorksOn : Command → List ℕ → (Program → Work) → Type 0
 WorksOn command file work = LoadsOne command file text_limit (λ bytes p. IsRead bytes (reading.accepted p)) IsRefusal IsRefusedText work
-
--- what is done with the module in a file, and nothing else
-abbrev pub WorksOnModule : Command → List ℕ → (Module → Work) → Type 0
-WorksOnModule command file work = LoadsOne command file module_limit IsModule IsModuleRefusal IsNoModule work
 
 pub loads_check : (file : List ℕ) → WorksOn (check file) file check_of
 loads_check file = record {
@@ -102,59 +97,6 @@ loads_eval file = record {
   works = λ p. run_worked (meaning p usual_fuel).ending;
 }
 
-abbrev usual : ℕ → Flags
-usual fuel = record { workers = 4; fuel = fuel; frames = 64; script = None; log = None; report = false; steps = false }
-
-some_none : (name : List ℕ) (o : Option (List ℕ)) → o ≡ None → o ≡ Some name → ⊥
-some_none name o e f = cc
-
-loads_usual : (file : List ℕ) (fuel : ℕ) → WorksOn (run file (usual fuel)) file (λ p. run_of false (meaning p fuel))
-loads_usual file fuel = record {
-  first = loads_program (run file (usual fuel)) file (λ sight p. Does (run_of false (meaning p fuel))) (λ sight outcome h. h) (λ sight outcome h. h) (inl refl) tt;
-  unwritten = λ name h. some_none name None refl h;
-  writes = λ sight. refl;
-  reports = λ sight. refl;
-  may_report = refl;
-  writes_out = tt;
-  can_work = λ p. run_can_end (run file (usual fuel)) tt (meaning p fuel).ending;
-  works = λ p. run_worked (meaning p fuel).ending;
-}
-
-loads_usual_module : (file : List ℕ) (fuel : ℕ) → WorksOnModule (exec file (usual fuel)) file (λ m. run_of false (machine_meaning m fuel))
-loads_usual_module file fuel = record {
-  first = loads_module (exec file (usual fuel)) file (λ sight m. Does (run_of false (machine_meaning m fuel))) (λ sight outcome h. h) (λ sight outcome h. h) (inl refl) tt;
-  unwritten = λ name h. some_none name None refl h;
-  writes = λ sight. refl;
-  reports = λ sight. refl;
-  may_report = refl;
-  writes_out = tt;
-  can_work = λ m. run_can_end (exec file (usual fuel)) tt (machine_meaning m fuel).ending;
-  works = λ m. run_worked (machine_meaning m fuel).ending;
-}
-
--- options that are as usual, but for the fuel
-usual_is : (flags : Flags) → is_usual flags ≡ true → flags ≡ usual flags.fuel
-usual_is flags h = by flags.workers flags.fuel flags.frames flags.script flags.log flags.report flags.steps h where
-  numbers : (w f n : ℕ) → w ≡ 4 → n ≡ 64
-      → record { workers = w; fuel = f; frames = n; script = None; log = None; report = false; steps = false } ≡ usual f
-  numbers w f n a c =
-      ap (λ x. record { workers = x; fuel = f; frames = n; script = None; log = None; report = false; steps = false }) a
-      ∙ ap (λ x. record { workers = 4; fuel = f; frames = x; script = None; log = None; report = false; steps = false }) c
-
-  by : (w f n : ℕ) (s l : Option (List ℕ)) (r t : Bool) → (w == 4 && (n == 64 && (not (is_some s) && (not (is_some l) && (not r && not t))))) ≡ true
-      → record { workers = w; fuel = f; frames = n; script = s; log = l; report = r; steps = t } ≡ usual f
-  by w f n None None false false h = numbers w f n (grind (arith, h)) (grind (arith, h))
-  by w f n (Some s) l r t h = absurd (grind (arith, h))
-  by w f n None (Some l) r t h = absurd (grind (arith, h))
-  by w f n None None true t h = absurd (grind (arith, h))
-  by w f n None None false true h = absurd (grind (arith, h))
-
-pub loads_run : (file : List ℕ) (flags : Flags) → is_usual flags ≡ true → WorksOn (run file flags) file (λ p. run_of false (meaning p flags.fuel))
-loads_run file flags h = subst (λ f. WorksOn (run file f) file (λ p. run_of false (meaning p f.fuel))) (sym (usual_is flags h)) (loads_usual file flags.fuel)
-
-pub loads_exec : (file : List ℕ) (flags : Flags) → is_usual flags ≡ true → WorksOnModule (exec file flags) file (λ m. run_of false (machine_meaning m flags.fuel))
-loads_exec file flags h = subst (λ f. WorksOnModule (exec file f) file (λ m. run_of false (machine_meaning m f.fuel))) (sym (usual_is flags h)) (loads_usual_module file flags.fuel)
-
 -- the load of the program ended the call
 pub stops_on : (command : Command) (file : List ℕ) (work : Program → Work) → WorksOn command file work → (before after : Objects) → Told before.files after.files SameFiles → before.out ≡ after.out
     → {ending : Ending} → StopsLoad before.files file text_limit IsRefusal IsRefusedText before.file_faults after.file_faults ending → Works command before after ending []
@@ -166,17 +108,6 @@ pub works_on : (command : Command) (file : List ℕ) (work : Program → Work) �
     → Holds before.files file (ReadsAs (reading.accepted p)) → {ending : Ending} → EndsWork (work p) before.out after.out before.out_faults after.out_faults ending → Works command before after ending []
 works_on command file work one before after same p holds ends =
     does_work command file text_limit (λ bytes p. IsRead bytes (reading.accepted p)) IsRefusal IsRefusedText work one before after same p holds ends
-
--- the load of the module, and the work on it, ended the call
-pub module_stops_on : (command : Command) (file : List ℕ) (work : Module → Work) → WorksOnModule command file work → (before after : Objects) → Told before.files after.files SameFiles → before.out ≡ after.out
-    → {ending : Ending} → StopsLoad before.files file module_limit IsModuleRefusal IsNoModule before.file_faults after.file_faults ending → Works command before after ending []
-module_stops_on command file work one before after same kept stops =
-    does_stop command file module_limit IsModule IsModuleRefusal IsNoModule (λ sight m. Does (work m)) one.first before after same kept stops
-
-pub module_works_on : (command : Command) (file : List ℕ) (work : Module → Work) → WorksOnModule command file work → (before after : Objects) → Told before.files after.files SameFiles → (m : Module)
-    → Holds before.files file (Spells m) → {ending : Ending} → EndsWork (work m) before.out after.out before.out_faults after.out_faults ending → Works command before after ending []
-module_works_on command file work one before after same m holds ends =
-    does_work command file module_limit IsModule IsModuleRefusal IsNoModule work one before after same m holds ends
 
 -- ---- nothing was done
 
@@ -193,7 +124,7 @@ untouched command ending None = tt
 untouched command ending (Some contents) = record { others = λ name no. refl; turned_away = λ away name. refl }
 
 -- memory was wanted before anything was done
-works_nothing : (command : Command) (objects : Objects) → Works command objects objects no_memory []
+pub works_nothing : (command : Command) (objects : Objects) → Works command objects objects no_memory []
 works_nothing command objects = record {
   can_end = tt;
   causes = λ part f. absurd (cc);
@@ -240,15 +171,13 @@ same_command one two o e f = cc
 not_none : (command : Command) (o : Option Command) → o ≡ Some command → o ≡ None → ⊥
 not_none command o e f = cc
 
-does : (command : Command) (before after : Outside) (status : ℕ) (ending : Ending) → Works command before.objects after.objects ending []
-    → Gets before.err after.err before.err_faults after.err_faults (err_text ending) → status ≡ status_of ending → DoesCommand command before after status
-does command before after status ending works line answers = record {
-  ending = ending;
-  report = [];
-  answers = answers;
-  line = subst (Gets before.err after.err before.err_faults after.err_faults) (sym (append-nil (err_text ending))) line;
-  works = works;
-}
+does : (command : Command) (before after : Outside) (status : ℕ) (ending : Ending) (report : List ℕ) → Works command before.objects after.objects ending report
+    → Gets before.err after.err before.err_faults after.err_faults (err_text ending ++ report) → status ≡ status_of ending → DoesCommand command before after status
+does command before after status ending report works line answers = record { ending = ending; report = report; answers = answers; line = line; works = works }
+
+-- the line alone, where nothing is reported
+alone : (a b : Option (List ℕ)) (f g : ℕ) (ending : Ending) → Gets a b f g (err_text ending) → Gets a b f g (err_text ending ++ [])
+alone a b f g ending line = subst (Gets a b f g) (sym (append-nil (err_text ending))) line
 
 -- no count fell
 pub counts_stay : (before after : Outside) → before.objects.file_faults ≤ after.objects.file_faults → before.objects.out_faults ≤ after.objects.out_faults
@@ -259,15 +188,15 @@ counts_stay before after a b c = record { parts = by; err = c } where
   by out = b
 
 -- there is a command, and it was carried out
-pub promise_of_command : (given : Option Command) (before after : Outside) (status : ℕ) (command : Command) (ending : Ending) → given ≡ Some command
-    → Works command before.objects after.objects ending [] → Gets before.err after.err before.err_faults after.err_faults (err_text ending)
+promise_of_command : (given : Option Command) (before after : Outside) (status : ℕ) (command : Command) (ending : Ending) (report : List ℕ) → given ≡ Some command
+    → Works command before.objects after.objects ending report → Gets before.err after.err before.err_faults after.err_faults (err_text ending ++ report)
     → status ≡ status_of ending → CountsStay before after → KeepsPromise given before after status
-promise_of_command given before after status command ending is works line answers counts = record {
+promise_of_command given before after status command ending report is works line answers counts = record {
   only_no_command = λ two. absurd (not_two command ending works.can_end (sym answers ∙ two));
   no_command = λ none. absurd (not_none command given is none);
   nothing = λ none. absurd (not_none command given is none);
   command = λ other also. subst (λ k. DoesCommand k before after status) (same_command command other given is also)
-      (does command before after status ending works line answers);
+      (does command before after status ending report works line answers);
   counts = counts;
 }
 
@@ -312,7 +241,8 @@ promise_of_no_memory given objects before_err after_err before_faults after_faul
   only_no_command = λ two. absurd (omega (arith, two, six));
   no_command = λ h. inr six;
   nothing = λ h. nothing_done objects before_err after_err before_faults after_faults status no_memory (inr refl) line six;
-  command = λ command is. does command (with_err objects before_err before_faults) (with_err objects after_err after_faults) status no_memory (works_nothing command objects) line six;
+  command = λ command is. does command (with_err objects before_err before_faults) (with_err objects after_err after_faults) status no_memory [] (works_nothing command objects)
+      (alone before_err after_err before_faults after_faults no_memory line) six;
   counts = err_counts objects before_err after_err before_faults after_faults later;
 }
 
@@ -327,9 +257,16 @@ not_given command h = ap (λ b. if b then Some command else None) h
 pub may_use : (may_load may_write : List ℕ → Type 0) (command : Command) → is_served command ≡ true → MayDo may_load may_write (served (Some command)) → MayUse may_load may_write command
 may_use may_load may_write command h may = may command (is_given command h)
 
--- a served command was carried out
+-- a served command was carried out, and reported this
+pub promise_of_run : (before after : Outside) (status : ℕ) (command : Command) (ending : Ending) (report : List ℕ) → is_served command ≡ true
+    → Works command before.objects after.objects ending report → Gets before.err after.err before.err_faults after.err_faults (err_text ending ++ report)
+    → status ≡ status_of ending → CountsStay before after → KeepsPromise (served (Some command)) before after status
+promise_of_run before after status command ending report h works line answers counts =
+    promise_of_command (served (Some command)) before after status command ending report (is_given command h) works line answers counts
+
+-- a served command was carried out, and reported nothing
 pub promise_of_served : (before after : Outside) (status : ℕ) (command : Command) (ending : Ending) → is_served command ≡ true
     → Works command before.objects after.objects ending [] → Gets before.err after.err before.err_faults after.err_faults (err_text ending)
     → status ≡ status_of ending → CountsStay before after → KeepsPromise (served (Some command)) before after status
 promise_of_served before after status command ending h works line answers counts =
-    promise_of_command (served (Some command)) before after status command ending (is_given command h) works line answers counts
+    promise_of_run before after status command ending [] h works (alone before.err after.err before.err_faults after.err_faults ending line) answers counts

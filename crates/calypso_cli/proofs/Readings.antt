@@ -1,5 +1,5 @@
 -- A text is read as one program, or refused in one way; bytes are one module's.
-use Rattle.std.proofs.Common.{◌≡◌, ℕ, refl, sym, ap, ◌∙◌}
+use Rattle.std.proofs.Common.{◌≡◌, ℕ, List, Option, Some, None, refl, sym, ap, ◌∙◌}
 use Rattle.csl_tree.specs.declared.program.Program.{Program}
 use Rattle.csl_reader.specs.declared.refusal.Refusal.{Refusal}
 use Rattle.csl_reader.specs.Readings as reading
@@ -11,7 +11,9 @@ use Rattle.bytecode.specs.Laws.{OneModulePerBytes}
 use Rattle.bytecode.proofs.Numbers.{some_same}
 use Rattle.bytecode.proofs.Forms.{module_again}
 use Rattle.calypso_cli.specs.Endings.{Ending, refused}
-use Rattle.calypso_cli.specs.Commands.{IsRefusedText, IsModule, IsNoModule}
+use Rattle.fault_script.specs.Rows.{Row}
+use Rattle.fault_script.specs.Scripts.{script_of}
+use Rattle.calypso_cli.specs.Commands.{IsRefusedText, IsModule, IsNoModule, IsScript, IsNoScript}
 use Rattle.calypso_cli.proofs.Only.{ReadsOnce}
 
 same_program : (p q : Program) (a b : Reading) → a ≡ b → a ≡ reading.accepted p → b ≡ reading.accepted q → p ≡ q
@@ -44,3 +46,17 @@ modules_once one_module = record {
 -- no bytes spell two modules
 pub one_module : OneModulePerBytes
 one_module m n fits_m fits_n e = some_same m n (module_of (spelling m)) (module_again m fits_m) (ap module_of e ∙ module_again n fits_n)
+
+same_rows : (one two : List Row) (o : Option (List Row)) → o ≡ Some one → o ≡ Some two → one ≡ two
+same_rows one two o e f = cc
+
+no_rows : (rows : List Row) (o : Option (List Row)) → o ≡ Some rows → o ≡ None → ⊥
+no_rows rows o e f = cc
+
+-- bytes are a script in one way, or none
+pub scripts_once : ReadsOnce IsScript IsNoScript
+scripts_once = record {
+  one = λ bytes x y h k. same_rows x y (script_of bytes) h k;
+  one_ending = λ bytes e f h k. h.1 ∙ sym k.1;
+  apart = λ bytes x e h k. no_rows x (script_of bytes) h k.0;
+}

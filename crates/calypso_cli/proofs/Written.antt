@@ -15,7 +15,7 @@ told_then (Some m) None c Q R S h k f = absurd h
 told_then (Some m) (Some n) None Q R S h k f = absurd k
 told_then (Some m) (Some n) (Some l) Q R S h k f = f m n l h k
 
-told_as : (a b : Option Contents) (R S : Contents → Contents → Type 0) → ((m n : Contents) → R m n → S m n) → Told a b R → Told a b S
+pub told_as : (a b : Option Contents) (R S : Contents → Contents → Type 0) → ((m n : Contents) → R m n → S m n) → Told a b R → Told a b S
 told_as None b R S f h = tt
 told_as (Some m) None R S f h = absurd h
 told_as (Some m) (Some n) R S f h = f m n h

@@ -1,5 +1,5 @@
 -- The tables of commands: which files each loads and writes, which endings it can have, what it comes to, and what it writes and reports. A command that
--- joins, or an option, is a case in each; `NoRowYet` stands where a command's formats are not defined yet, and such a command is not served.
+-- joins, or an option, is a case in each; `NoRowYet` stands where the row of a command is not written yet, and such a command is not served.
 use Rattle.std.specs.Prelude.{◌≡◌, ◌⊎◌, ℕ, Bool, true, false, Option, None, Some, List, []}
 use Rattle.std.specs.Prelude.{◌≤◌, length}
 use Rattle.cal_base.specs.declared.ends.RunEnd.{RunEnd}
@@ -17,10 +17,15 @@ use Rattle.bytecode.specs.declared.module.Module.{Module}
 use Rattle.bytecode.specs.Spelling.{spelling, HasSpelling}
 use Rattle.code_verify.specs.Rules.{IsVerified}
 use Rattle.machine_meaning.specs.Meaning.{machine_main, machine_meaning}
+use Rattle.fault_script.specs.Rows.{Row}
+use Rattle.fault_script.specs.Scripts.{script_of}
+use Rattle.run_report.specs.Logs.{Trace, log_text}
+use Rattle.run_report.specs.Reports.{report_text}
+use Rattle.calypso_engine.specs.Traces.{IsTraceOf, Tallies, in_order, AreTalliesOf, FollowScript, Agree}
+use Rattle.program_gen.specs.Generated.{generated}
 use Rattle.command_words.specs.Commands.{Flags, Command, check, eval, run, sim, build, exec, gen, selfrun}
 use Rattle.calypso_cli.specs.Endings.{Ending, done, no_command, cannot_load, cannot_write, refused, fault, no_memory, output_failed, script_refused, events_refused, too_long, module_refused}
-use Rattle.calypso_cli.specs.Outcomes.{Sight, Outcome, Work, Loads, Creates, Does}
-use Rattle.calypso_cli.specs.Traces.{Trace, Row, Tallies, IsTraceOf, log_text, AreTalliesOf, FollowScript, Agree, report_text}
+use Rattle.calypso_cli.specs.Outcomes.{Sight, Outcome, Work, finished, Loads, Creates, Does}
 
 -- a format of this command is not defined yet
 abbrev pub NoRowYet : Type 0
@@ -52,7 +57,7 @@ IsWritten (selfrun number size) name = ⊥
 
 -- ---- endings
 
--- the command loads a program's text
+-- the command reads a program's text
 abbrev pub LoadsProgram : Command → Type 0
 LoadsProgram (check file) = Unit {0}
 LoadsProgram (eval file) = Unit {0}
@@ -61,7 +66,7 @@ LoadsProgram (sim file events log) = Unit {0}
 LoadsProgram (build file into) = Unit {0}
 LoadsProgram (exec file flags) = ⊥
 LoadsProgram (gen number size) = ⊥
-LoadsProgram (selfrun number size) = ⊥
+LoadsProgram (selfrun number size) = Unit {0}
 
 -- the command loads a module
 abbrev pub LoadsModule : Command → Type 0
@@ -159,10 +164,22 @@ IsNoModule bytes ending = ((m : Module) → IsModule bytes m → ⊥) × (ending
 abbrev pub WithModule : Sight → List ℕ → (Module → Outcome → Type 0) → Outcome → Type 0
 WithModule sight file Next outcome = Loads file module_limit IsModule IsNoModule Next (sight.files file) outcome
 
+-- the longest script, in bytes
+abbrev pub script_limit : ℕ
+script_limit = 1048576
+
+-- the bytes are a script with these rows
+abbrev pub IsScript : List ℕ → List Row → Type 0
+IsScript bytes rows = script_of bytes ≡ Some rows
+
+-- the bytes are no script
+abbrev pub IsNoScript : List ℕ → Ending → Type 0
+IsNoScript bytes ending = (script_of bytes ≡ None) × (ending ≡ script_refused)
+
 -- what a command comes to that loads a script, where one is named, and goes on
 abbrev pub WithScript : Sight → Option (List ℕ) → (Outcome → Type 0) → Outcome → Type 0
 WithScript sight None Next outcome = Next outcome
-WithScript sight (Some file) Next outcome = NoRowYet
+WithScript sight (Some file) Next outcome = Loads file script_limit IsScript IsNoScript (λ rows. Next) (sight.files file) outcome
 
 -- the file holds the text of this accepted program
 abbrev pub HoldsProgram : Sight → List ℕ → Program → Type 0
@@ -175,7 +192,7 @@ HoldsModule sight file m = (bytes : List ℕ) × (sight.files file ≡ Some byte
 -- the rows of the script, where one is named; with no script there is none
 abbrev pub HoldsScript : Sight → Option (List ℕ) → List Row → Type 0
 HoldsScript sight None rows = rows ≡ []
-HoldsScript sight (Some file) rows = NoRowYet
+HoldsScript sight (Some file) rows = (bytes : List ℕ) × (sight.files file ≡ Some bytes) × (length bytes ≤ script_limit) × IsScript bytes rows
 
 -- ---- work
 
@@ -197,9 +214,18 @@ check_of p = record { ending = done; text = canonical p }
 abbrev pub build_of : Work
 build_of = record { ending = done; text = [] }
 
+-- the writing of a generated program
+abbrev pub gen_of : (number size : ℕ) → Work
+gen_of number size = record { ending = done; text = generated number size }
+
 -- the units of fuel of `eval`, `sim` and `selfrun`
 abbrev pub usual_fuel : ℕ
 usual_fuel = 1000000
+
+-- What a command comes to that goes on with the program which this text spells, or ends where it spells none.
+pub data FromText (bytes : List ℕ) (Next : Program → Outcome → Type 0) : Outcome → Type 0 where
+  spelled : (p : Program) (outcome : Outcome) → IsRead bytes (reading.accepted p) → Next p outcome → FromText bytes Next outcome
+  turned : (ending : Ending) → IsRefusedText bytes ending → FromText bytes Next (finished (record { ending = ending; text = [] }))
 
 -- what a command comes to on what is seen of the outside
 abbrev pub ComesTo : Command → Sight → Outcome → Type 0
@@ -211,8 +237,8 @@ ComesTo (sim file events log) sight outcome = NoRowYet
 ComesTo (build file into) sight outcome = WithProgram sight file (λ p. Creates (Some into) (Does build_of)) outcome
 ComesTo (exec file flags) sight outcome =
     WithModule sight file (λ m. WithScript sight flags.script (Creates flags.log (Does (run_of flags.steps (machine_meaning m flags.fuel))))) outcome
-ComesTo (gen number size) sight outcome = NoRowYet
-ComesTo (selfrun number size) sight outcome = NoRowYet
+ComesTo (gen number size) sight outcome = Does (gen_of number size) outcome
+ComesTo (selfrun number size) sight outcome = FromText (generated number size) (λ p. Does (run_of false (meaning p usual_fuel))) outcome
 
 -- ---- logs, modules and reports
 
@@ -225,7 +251,7 @@ HasTrace (sim file events log) sight trace = NoRowYet
 HasTrace (build file into) sight trace = trace ≡ []
 HasTrace (exec file flags) sight trace = (m : Module) × HoldsModule sight file m × IsTraceOf (steps_of (machine_main m flags.fuel)) trace
 HasTrace (gen number size) sight trace = trace ≡ []
-HasTrace (selfrun number size) sight trace = NoRowYet
+HasTrace (selfrun number size) sight trace = (p : Program) × IsRead (generated number size) (reading.accepted p) × IsTraceOf (steps_of (main p usual_fuel)) trace
 
 -- the text of a log, where one is named: that of a trace of the run
 abbrev pub WritesLog : Option (List ℕ) → (Trace → Type 0) → Trace → List ℕ → Type 0
@@ -249,10 +275,14 @@ Writes (exec file flags) sight trace text = WritesLog flags.log (HasTrace (exec 
 Writes (gen number size) sight trace text = text ≡ []
 Writes (selfrun number size) sight trace text = text ≡ []
 
+-- the lines of all workers, ascending, and then the caller's
+abbrev pub tallies_text : Tallies → List ℕ
+tallies_text tallies = report_text (in_order tallies)
+
 -- a report has one line for each worker and the caller's
 abbrev pub MayReportOf : Bool → (workers : ℕ) → List ℕ → Type 0
 MayReportOf false workers report = report ≡ []
-MayReportOf true workers report = (tallies : Tallies) × AreTalliesOf workers tallies × (report ≡ report_text tallies)
+MayReportOf true workers report = (tallies : Tallies) × AreTalliesOf workers tallies × (report ≡ tallies_text tallies)
 
 -- what err may get behind the line of an ending where the command did its work, whatever the files hold
 abbrev pub MayReport : Command → List ℕ → Type 0
@@ -265,21 +295,29 @@ MayReport (exec file flags) report = MayReportOf flags.report flags.workers repo
 MayReport (gen number size) report = report ≡ []
 MayReport (selfrun number size) report = report ≡ []
 
--- the report of a run with this trace: its tallies follow the script and agree with the histories
-pub record IsReport (flags : Flags) (sight : Sight) (IsTrace : Trace → Type 0) (trace : Trace) (report : List ℕ) : Type 0 where
-  pub rows : List Row
-  pub script : HoldsScript sight flags.script rows
+-- a report of so many workers, of a run with this trace: its tallies follow these rows and agree with the histories
+pub record ReportsTallies (workers : ℕ) (rows : List Row) (trace : Trace) (report : List ℕ) : Type 0 where
   pub tallies : Tallies
-  pub workers : AreTalliesOf flags.workers tallies
+  pub numbered : AreTalliesOf workers tallies
   pub follow : FollowScript rows tallies
-  pub traced : IsTrace trace
   pub agree : Agree trace tallies
-  pub text : report ≡ report_text tallies
+  pub text : report ≡ tallies_text tallies
 
 -- the report, where one is asked for
 abbrev pub ReportsOf : Bool → (report : List ℕ) → Type 0 → Type 0
 ReportsOf false report Reported = report ≡ []
 ReportsOf true report Reported = Reported
+
+-- the report of a run with these options, rows and trace
+abbrev pub ReportsRun : Flags → List Row → Trace → List ℕ → Type 0
+ReportsRun flags rows trace report = ReportsOf flags.report report (ReportsTallies flags.workers rows trace report)
+
+-- the same by the script's file
+pub record IsReport (flags : Flags) (sight : Sight) (IsTrace : Trace → Type 0) (trace : Trace) (report : List ℕ) : Type 0 where
+  pub rows : List Row
+  pub script : HoldsScript sight flags.script rows
+  pub traced : IsTrace trace
+  pub reported : ReportsTallies flags.workers rows trace report
 
 -- what the command reports, on what is seen of the outside, in a run with this trace
 abbrev pub Reports : Command → Sight → Trace → List ℕ → Type 0

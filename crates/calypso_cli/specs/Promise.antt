@@ -5,10 +5,10 @@ use Rattle.std.specs.Io.{StartsWith}
 use Rattle.std.specs.Io.KnownBytes.{Appends}
 use Rattle.cal_base.specs.Causes.{Rose, IsQuiet}
 use Rattle.cal_base.specs.Contents.{Contents, Told, SameFiles, AppendsPrefix}
+use Rattle.run_report.specs.Logs.{Trace}
 use Rattle.command_words.specs.Commands.{Command}
 use Rattle.calypso_cli.specs.Endings.{Part, files, out, worked, turned_away, failed, Ending, no_command, no_memory, output_failed, kind_of, status_of, err_text, IsBeforeWork}
 use Rattle.calypso_cli.specs.Outcomes.{Sight, Reach, cannot, Outcome}
-use Rattle.calypso_cli.specs.Traces.{Trace}
 use Rattle.calypso_cli.specs.Commands.{IsLoaded, IsWritten, WritesOut, CanEnd, ComesTo, Writes, MayReport, Reports}
 
 -- what the files and out tell at a moment, and their counts of faults

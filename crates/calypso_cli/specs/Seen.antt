@@ -1,7 +1,15 @@
 -- Endings of the code, as contracts see them.
+use Rattle.std.specs.Prelude.{ℕ, List, [], Option, None, Some}
+use Rattle.cal_base.specs.declared.step.WorkerTally.{WorkerTally}
+use Rattle.run_report.specs.Reports.{report_text}
 use Rattle.calypso_cli.specs.declared.ending.Ending.{Ending}
 use Rattle.calypso_cli.specs.declared.ending.Ending.TheVariants.{Done, NoCommand, CannotLoad, CannotWrite, Refused, Fault, NoMemory, OutputFailed, ScriptRefused, EventsRefused, TooLong, ModuleRefused}
 use Rattle.calypso_cli.specs.Endings as table
+
+-- the report: the lines of the tallies, where there are some
+abbrev pub report_seen : Option (List WorkerTally) → List ℕ
+report_seen None = []
+report_seen (Some tallies) = report_text tallies
 
 -- the ending
 abbrev pub ending_seen : Ending → table.Ending

@@ -1,22 +1,17 @@
 -- Which commands are served today. Words whose command is not served end as words that give no command.
-use Rattle.std.specs.Prelude.{Bool, true, false, not, ◌&&◌, ◌==◌, if◌then◌else◌, is_some, Option, None, Some}
-use Rattle.command_words.specs.Commands.{Flags, Command, check, eval, run, sim, build, exec, gen, selfrun}
-
--- no option of a run but its fuel is there, or each says what holds without it
-abbrev pub is_usual : Flags → Bool
-is_usual flags =
-    flags.workers == 4 && (flags.frames == 64 && (not (is_some flags.script) && (not (is_some flags.log) && (not flags.report && not flags.steps))))
+use Rattle.std.specs.Prelude.{Bool, true, false, if◌then◌else◌, Option, None, Some}
+use Rattle.command_words.specs.Commands.{Command, check, eval, run, sim, build, exec, gen, selfrun}
 
 -- is the command served?
 abbrev pub is_served : Command → Bool
 is_served (check file) = true
 is_served (eval file) = true
-is_served (run file flags) = is_usual flags
+is_served (run file flags) = true
 is_served (sim file events log) = false
 is_served (build file into) = true
-is_served (exec file flags) = is_usual flags
-is_served (gen number size) = false
-is_served (selfrun number size) = false
+is_served (exec file flags) = true
+is_served (gen number size) = true
+is_served (selfrun number size) = true
 
 -- the command, where there is one and it is served
 abbrev pub served : Option Command → Option Command

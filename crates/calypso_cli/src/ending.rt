@@ -1,6 +1,6 @@
 //! How a call ends: its status and the line that tells of it.
 
-ghost use Rattle.std.specs.Prelude.{◌≡◌, ◌≤◌, ◌++◌, codes, OnOk, OnErr};
+ghost use Rattle.std.specs.Prelude.{◌≡◌, ◌≤◌, ◌++◌, [], codes, OnOk, OnErr};
 ghost use Rattle.std.specs.Io.KnownBytes.{Appends};
 ghost use Rattle.cal_base.specs.Causes.{HasCause};
 ghost use Rattle.cal_base.specs.Contents.{AppendsPrefix};
@@ -8,12 +8,13 @@ ghost use Rattle.calypso_cli.specs.Commands.{ended};
 ghost use Rattle.cal_base.specs.Text.{line};
 ghost use Rattle.calypso_cli.specs.Endings.{refused, events_refused, status_of, err_text};
 ghost use Rattle.calypso_cli.specs.Promise.{Gets};
-ghost use Rattle.calypso_cli.specs.Seen.{ending_seen};
+ghost use Rattle.calypso_cli.specs.Seen.{ending_seen, report_seen};
 
-use crate::lines::{write_fault, write_pieces};
-use cal_base::{Failed, RunEnd, Sink, write_all};
+use cal_base::{Failed, RunEnd, Sink, WorkerTally, write_all};
 use csl_reader::Refusal;
 use itoa::Buffer;
+use run_report::{fault_line, report_lines, write_pieces};
+use sqlite_items::Items;
 
 /// How a call ends. The table of statuses is in `docs/RUNTIME.md`.
 #[derive(Clone, Copy, Debug)]
@@ -128,7 +129,7 @@ impl<'a> Ending<'a> {
                 write_file_line(err, name, b": cannot be used")
             }
             Ending::Refused { at, why } => write_refusal(err, *at, *why),
-            Ending::Fault(end) => write_fault(err, *end),
+            Ending::Fault(end) => fault_line(err, *end),
             Ending::NoMemory => write_all(err, b"out of memory\n"),
             Ending::OutputFailed => write_all(err, b"output failed\n"),
             Ending::ScriptRefused => write_all(err, b"script refused\n"),
@@ -137,6 +138,50 @@ impl<'a> Ending<'a> {
             Ending::ModuleRefused => write_all(err, b"module refused\n"),
         }
     }
+}
+
+/// How a call ends that ran a program, and what its workers and the caller did, where that is to be reported.
+#[derive(Drop)]
+pub(crate) struct Ended<'a> {
+    pub ending: Ending<'a>,
+    pub report: Option<Items<WorkerTally>>,
+}
+
+impl<'a> Ended<'a> {
+    /// An ending with no report.
+    pub(crate) fn of(ending: Ending<'a>) -> Ended<'a>
+        ensures ending { result.ending ≡ ending.entry }
+        ensures report { report_seen result.report ≡ [] }
+    {
+        Ended {
+            ending,
+            report: None,
+        }
+    }
+
+    /// Writes the line that tells of the ending, and the report behind it.
+    fn write<E: Sink>(&self, err: &mut E) -> Result<(), Failed>
+        ensures ok { OnOk result (Appends (E.written err.old) (E.written err.new) (err_text (ending_seen self.now.ending) ++ report_seen self.now.report)) }
+        ensures err { OnErr result (AppendsPrefix (E.written err.old) (E.written err.new) (err_text (ending_seen self.now.ending) ++ report_seen self.now.report)) }
+        ensures cause { HasCause (E.faults err.old) (E.faults err.new) result }
+    {
+        self.ending.write(err)?;
+        match &self.report {
+            None => Ok(()),
+            Some(tallies) => report_lines(err, tallies.as_slice()),
+        }
+    }
+}
+
+/// Tells of the ending and what is reported, and answers the ending's status.
+pub(crate) fn conclude_run<E: Sink>(ended: Ended<'_>, err: &mut E) -> u8
+    ensures status { result ≡ status_of (ending_seen ended.entry.ending) }
+    ensures line { Gets (E.written err.old) (E.written err.new) (E.faults err.old) (E.faults err.new)
+        (err_text (ending_seen ended.entry.ending) ++ report_seen ended.entry.report) }
+    ensures later { E.faults err.old ≤ E.faults err.new }
+{
+    let _ = ended.write(err);
+    ended.ending.status()
 }
 
 /// Tells of the ending, and answers its status.

@@ -7,11 +7,12 @@ mod ending;
 mod eval;
 mod exec;
 mod execute;
+mod generated;
 pub mod laws;
-mod lines;
 mod load;
 mod no_threads;
 mod run;
+mod selfrun;
 mod served;
 mod top;
 

@@ -1,19 +1,22 @@
-//! Programs and modules in files.
+//! Programs, modules and scripts in files.
 
-ghost use Rattle.std.specs.Prelude.{◌≡◌, ◌⊎◌, ◌≤◌, length, IfOk, IfErr};
+ghost use Rattle.std.specs.Prelude.{◌≡◌, ◌⊎◌, ◌≤◌, ℕ, List, length, Some, IfOk, IfErr};
 ghost use Rattle.cal_base.specs.Contents.{Told, SameFiles, Loads};
 ghost use Rattle.csl_grammar.specs.Texts.{text_limit};
 ghost use Rattle.csl_reader.specs.Readings as reading;
-ghost use Rattle.calypso_cli.specs.Commands.{IsRefusedText, IsModule, IsNoModule, module_limit};
+ghost use Rattle.calypso_cli.specs.Commands.{IsRefusedText, IsModule, IsNoModule, module_limit, IsScript, IsNoScript, script_limit};
+ghost use Rattle.command_words.specs.Seen.{flags_seen};
 ghost use Rattle.calypso_cli.specs.Endings.{no_memory};
-ghost use Rattle.calypso_cli.specs.Steps.{Holds, ReadsAs, IsRefusal, Spells, IsModuleRefusal, NoEnding, TurnsNoneAway, StopsLoad};
+ghost use Rattle.calypso_cli.specs.Steps.{Holds, HoldsRows, ReadsAs, IsRefusal, Spells, IsModuleRefusal, IsScriptRefusal, NoEnding, TurnsNoneAway, StopsLoad, StopsScript};
 ghost use Rattle.calypso_cli.specs.Seen.{ending_seen};
 
 use crate::Ending;
 use bytecode::{DecodeError, decode};
 use cal_base::{Files, LoadError};
 use code_verify::{Verified, VerifyError, verify};
+use command_words::Flags;
 use csl_reader::{ReadError, read_program};
+use fault_script::{Script, ScriptError, read_script};
 use std::alloc::Global;
 use type_check::checked::Checked;
 
@@ -22,6 +25,9 @@ const PROGRAM_LIMIT: usize = 1_048_576;
 
 /// The longest module, in bytes.
 const MODULE_LIMIT: usize = 16_777_216;
+
+/// The longest script, in bytes.
+const SCRIPT_LIMIT: usize = 1_048_576;
 
 /// The bytes of a file, which are to be no more than the limit, or how the call ends.
 fn load_bytes<'a, F: Files>(
@@ -104,5 +110,46 @@ pub(crate) fn load_module<'a, F: Files>(
     match load_bytes(alloc, files, file, MODULE_LIMIT) {
         Ok(bytes) => read_module(alloc, &bytes),
         Err(ending) => Err(ending),
+    }
+}
+
+/// The script in a file, or how the call ends.
+fn load_rows<'a, F: Files>(
+    alloc: Global,
+    files: &mut F,
+    file: &'a str,
+) -> Result<Script, Ending<'a>>
+    requires { F.may_load file.now }
+    ensures loaded { IfOk result (λ script. Holds (F.holds files.old) file.now (λ bytes. (length bytes ≤ script_limit) × IsScript bytes script)) }
+    ensures stops { IfErr result (λ ending. StopsLoad (F.holds files.old) file.now script_limit IsScriptRefusal IsNoScript (F.faults files.old) (F.faults files.new) (ending_seen ending)) }
+    ensures files { Told (F.holds files.old) (F.holds files.new) SameFiles }
+    ensures later { F.faults files.old ≤ F.faults files.new }
+{
+    let bytes = match load_bytes(alloc, files, file, SCRIPT_LIMIT) {
+        Ok(bytes) => bytes,
+        Err(ending) => return Err(ending),
+    };
+    match read_script(alloc, &bytes) {
+        Ok(script) => Ok(script),
+        Err(ScriptError::Refused) => Err(Ending::ScriptRefused),
+        Err(ScriptError::NoMemory) => Err(Ending::NoMemory),
+    }
+}
+
+/// The script that the options name, one that says nothing where they name none, or how the call ends.
+pub(crate) fn load_script<'a, F: Files>(
+    alloc: Global,
+    files: &mut F,
+    flags: &'a Flags,
+) -> Result<Script, Ending<'a>>
+    requires { (name : List ℕ) → (flags_seen flags.now).script ≡ Some name → F.may_load name }
+    ensures rows { IfOk result (λ script. HoldsRows (F.holds files.old) (flags_seen flags.now).script script) }
+    ensures stops { IfErr result (λ ending. StopsScript (F.holds files.old) (flags_seen flags.now).script (F.faults files.old) (F.faults files.new) (ending_seen ending)) }
+    ensures files { Told (F.holds files.old) (F.holds files.new) SameFiles }
+    ensures later { F.faults files.old ≤ F.faults files.new }
+{
+    match &flags.script {
+        Some(file) => load_rows(alloc, files, file.as_str()),
+        None => Ok(Script::none(alloc)),
     }
 }

@@ -12,6 +12,7 @@ use crate::build::build_file;
 use crate::check::check_file;
 use crate::ending::conclude;
 use crate::eval::eval_file;
+use crate::generated::write_generated;
 use crate::served::is_served;
 use cal_base::{Files, Sink};
 use command_words::Command;
@@ -40,6 +41,7 @@ fn carry_out<'a, F: Files, S: Sink>(
         Command::Build { file, module } => {
             build_file(alloc, file.as_str(), module.as_str(), files)
         }
+        Command::Gen(program) => write_generated(alloc, program.number, program.size, out),
         _ => unreachable!(),
     }
 }

@@ -6,14 +6,15 @@ ghost use Rattle.command_words.specs.Seen.{command_seen};
 ghost use Rattle.calypso_cli.specs.Served as serving;
 ghost use Rattle.calypso_cli.specs.Served.{served, WaitsForNobody};
 ghost use Rattle.calypso_cli.specs.Promise.{objects_of, Gets, MayUse, MayDo, Works, KeepsPromise};
-ghost use Rattle.calypso_cli.specs.Seen.{ending_seen};
+ghost use Rattle.calypso_cli.specs.Seen.{ending_seen, report_seen};
 ghost use Rattle.calypso_cli.specs.Endings.{no_memory, status_of, err_text};
 
 use crate::Ending;
-use crate::ending::conclude;
+use crate::ending::{Ended, conclude, conclude_run};
 use crate::exec::exec_file;
 use crate::no_threads::plain;
 use crate::run::run_file;
+use crate::selfrun::run_generated;
 use crate::served::is_served;
 use cal_base::{Files, Gate, Sink};
 use command_words::{Command, WordsError, read_words};
@@ -30,37 +31,46 @@ pub fn out_of_memory<E: Sink>(err: &mut E) -> u8
     conclude(Ending::NoMemory, err)
 }
 
-/// Does what a served command asks for that is to run worker threads. None of them starts any yet.
-fn carry_out<'a, F: Files, S: Sink>(
+/// Does what a served command asks for that is to run worker threads.
+fn carry_out<'a, R: Threads + Wait + Sync, F: Files, S: Sink, G: Gate>(
+    rt: &R,
     alloc: Global,
     command: &'a Command,
     files: &mut F,
     out: &mut S,
-) -> Ending<'a>
+    gate: &G,
+) -> Ended<'a>
     requires waits { WaitsForNobody (command_seen command.now) → ⊥ }
     requires is_served { serving.is_served (command_seen command.now) ≡ true }
     requires may_use { MayUse F.may_load F.may_write (command_seen command.now) }
     ensures works { Works (command_seen command.now)
         (objects_of (F.holds files.old) (S.written out.old) (F.faults files.old) (S.faults out.old))
         (objects_of (F.holds files.new) (S.written out.new) (F.faults files.new) (S.faults out.new))
-        (ending_seen result) [] }
+        (ending_seen result.ending) (report_seen result.report) }
     ensures files_later { F.faults files.old ≤ F.faults files.new }
     ensures out_later { S.faults out.old ≤ S.faults out.new }
 {
     match command {
-        Command::Run { file, flags } => run_file(alloc, file.as_str(), flags, files, out),
-        Command::Exec { module, flags } => exec_file(alloc, module.as_str(), flags, files, out),
+        Command::Run { file, flags } => {
+            run_file(rt, alloc, file.as_str(), flags, files, out, gate)
+        }
+        Command::Exec { module, flags } => {
+            exec_file(rt, alloc, module.as_str(), flags, files, out, gate)
+        }
+        Command::Selfrun(which) => Ended::of(run_generated(rt, alloc, which, files, out, gate)),
         _ => unreachable!(),
     }
 }
 
 /// Does what a command asks for that runs worker threads, so is `run`, `exec` or `selfrun`, and answers the status of the process.
-fn with_threads<F: Files, S: Sink, E: Sink>(
+fn with_threads<R: Threads + Wait + Sync, F: Files, S: Sink, E: Sink, G: Gate>(
+    rt: &R,
     alloc: Global,
     command: &Command,
     files: &mut F,
     out: &mut S,
     err: &mut E,
+    gate: &G,
 ) -> u8
     requires waits { WaitsForNobody (command_seen command.now) → ⊥ }
     requires may_use { MayDo F.may_load F.may_write (served (Some (command_seen command.now))) }
@@ -80,17 +90,19 @@ fn with_threads<F: Files, S: Sink, E: Sink>(
     if !is_served(command) {
         return conclude(Ending::NoCommand, err);
     }
-    let ending = carry_out(alloc, command, files, out);
-    conclude(ending, err)
+    let ended = carry_out(rt, alloc, command, files, out, gate);
+    conclude_run(ended, err)
 }
 
 /// Does what a command asks for, and answers the status of the process.
-fn does_command<F: Files, S: Sink, E: Sink>(
+fn does_command<R: Threads + Wait + Sync, F: Files, S: Sink, E: Sink, G: Gate>(
+    rt: &R,
     alloc: Global,
     command: &Command,
     files: &mut F,
     out: &mut S,
     err: &mut E,
+    gate: &G,
 ) -> u8
     requires { MayDo F.may_load F.may_write (served (Some (command_seen command.now))) }
     ensures { KeepsPromise (served (Some (command_seen command.now)))
@@ -111,9 +123,9 @@ fn does_command<F: Files, S: Sink, E: Sink>(
         | Command::Eval { .. }
         | Command::Sim { .. }
         | Command::Build { .. }
-        | Command::Gen { .. } => plain(alloc, command, files, out, err),
-        Command::Run { .. } | Command::Exec { .. } | Command::Selfrun { .. } => {
-            with_threads(alloc, command, files, out, err)
+        | Command::Gen(_) => plain(alloc, command, files, out, err),
+        Command::Run { .. } | Command::Exec { .. } | Command::Selfrun(_) => {
+            with_threads(rt, alloc, command, files, out, err, gate)
         }
     }
 }
@@ -123,13 +135,13 @@ fn does_command<F: Files, S: Sink, E: Sink>(
 /// The words come without the program's own name. The commands are told in `docs/RUNTIME.md`, with those that are served today, and what
 /// is promised of each in `docs/PROMISES.md`.
 pub fn calypso<R: Threads + Wait + Sync, F: Files, S: Sink, E: Sink, G: Gate>(
-    _rt: &R,
+    rt: &R,
     alloc: Global,
     words: &[String],
     files: &mut F,
     out: &mut S,
     err: &mut E,
-    _gate: &G,
+    gate: &G,
 ) -> u8
     requires { MayDo F.may_load F.may_write (served (command_of (map string_bytes words.now))) }
     ensures { KeepsPromise (served (command_of (map string_bytes words.now)))
@@ -146,7 +158,7 @@ pub fn calypso<R: Threads + Wait + Sync, F: Files, S: Sink, E: Sink, G: Gate>(
         result }
 {
     match read_words(alloc, words) {
-        Ok(command) => does_command(alloc, &command, files, out, err),
+        Ok(command) => does_command(rt, alloc, &command, files, out, err, gate),
         Err(WordsError::NoCommand) => conclude(Ending::NoCommand, err),
         Err(WordsError::NoMemory) => conclude(Ending::NoMemory, err),
     }

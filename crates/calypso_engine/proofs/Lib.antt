@@ -2,4 +2,15 @@ pub mod Runs
 pub mod Texts
 pub mod Falling
 pub mod Lines
+pub mod Logging
+pub mod Traces
+pub mod Kept
+pub mod Firsts
+pub mod Completing
+pub mod Teams
+pub mod Worked
+pub mod Counts
 pub mod Events
+pub mod Ready
+pub mod Beginning
+pub mod Whole

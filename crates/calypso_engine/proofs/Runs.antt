@@ -3,12 +3,10 @@ use Rattle.std.proofs.Common.{◌≡◌, ℕ, ◌+◌, List, [], ◌∷◌, ◌+
 use Rattle.std.proofs.lemmas.List.Sums.{sum_by-append}
 use Rattle.cal_base.specs.declared.ends.RunEnd.{RunEnd}
 use Rattle.cal_base.specs.declared.ends.RunEnd.TheVariants.{StepFailed}
-use Rattle.cal_base.specs.declared.step.WorkerTally.{WorkerTally}
 use Rattle.cal_base.specs.History.{claims_by, is_caller}
 use Rattle.cal_base.specs.Main.{Main, Ends, Shows, Opens, Event, Line, step_event}
 use Rattle.step_laws.specs.Closed.{ClosedStep}
 use Rattle.engine_laws.specs.Ran.{RunsTo, Here, Shown, Closed, RunsThrough, Ended, Failed, callers_claims}
-use Rattle.worker_gate.specs.Working.{with_claims}
 
 module _ (main mid : Main) (shown : List Event) (closed : List ClosedStep) (first : RunsTo main mid shown closed) where
   pub runs_then : (rest : Main) (more : List Event) (steps : List ClosedStep) → RunsTo mid rest more steps → RunsTo main rest (shown ++ more) (closed ++ steps)
@@ -39,17 +37,3 @@ claims_none = refl
 pub claims_one : (step : ClosedStep) → callers_claims (step ∷ []) ≡ claims_by is_caller step.history
 unfolding callers_claims
 claims_one step = omega arith
-
-none_more : (n : ℕ) → n + 0 ≡ n
-none_more n = omega arith
-
-in_turn : (n a b : ℕ) → n + a + b ≡ n + (a + b)
-in_turn n a b = omega arith
-
--- a tally after no claims
-pub tally_none : (tally : WorkerTally) → with_claims tally 0 ≡ tally
-tally_none tally = λ i. record tally { claims = none_more tally.claims i; executed = none_more tally.executed i }
-
--- and after claims and more claims
-pub tally_then : (tally : WorkerTally) (a b : ℕ) → with_claims (with_claims tally a) b ≡ with_claims tally (a + b)
-tally_then tally a b = λ i. record tally { claims = in_turn tally.claims a b i; executed = in_turn tally.executed a b i }

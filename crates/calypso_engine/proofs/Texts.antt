@@ -12,7 +12,7 @@ pub text_then : (steps : Bool) (shown more : List Event) → text_of steps (show
 text_then steps [] more = refl
 text_then steps (e ∷ shown) more = ap (λ t. event_text steps e ++ t) (text_then steps shown more) ∙ sym (append_assoc (event_text steps e) (text_of steps shown) (text_of steps more))
 
-starts_nothing : (xs : List ℕ) → StartsWith xs []
+pub starts_nothing : (xs : List ℕ) → StartsWith xs []
 starts_nothing xs = refl
 
 zero_sum : (n : ℕ) → 0 + n ≡ n
@@ -25,10 +25,10 @@ take_more : (xs ys : List ℕ) (n : ℕ) → take (length xs + n) (xs ++ ys) ≡
 take_more [] ys n = ap (λ k. take k ys) (zero_sum n)
 take_more (x ∷ xs) ys n = rw (suc_sum (length xs) n) (ap (λ t. x ∷ t) (take_more xs ys n))
 
-starts_after : (xs ys front : List ℕ) → StartsWith ys front → StartsWith (xs ++ ys) (xs ++ front)
+pub starts_after : (xs ys front : List ℕ) → StartsWith ys front → StartsWith (xs ++ ys) (xs ++ front)
 starts_after xs ys front s = ap (λ n. take n (xs ++ ys)) (length-append xs front) ∙ take_more xs ys (length front) ∙ ap (λ t. xs ++ t) s
 
-starts_more : (xs f ys : List ℕ) → StartsWith xs f → StartsWith (xs ++ ys) f
+pub starts_more : (xs f ys : List ℕ) → StartsWith xs f → StartsWith (xs ++ ys) f
 starts_more xs [] ys e = refl
 starts_more [] (x ∷ f) ys e = cc
 starts_more (z ∷ xs) (x ∷ f) ys e = let same : z ≡ x = cc in let rest : take (length f) xs ≡ f = cc in λ i. same i ∷ starts_more xs f ys rest i

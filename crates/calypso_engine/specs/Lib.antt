@@ -1,4 +1,11 @@
 pub mod Lines
-pub mod Steps
+pub mod Traces
+pub mod Logs
+pub mod Asked
+pub mod Kept
+pub mod Teams
+pub mod Beginning
 pub mod Running
+pub mod Steps
+pub mod Stepping
 pub mod Whole

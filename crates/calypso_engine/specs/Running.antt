@@ -1,60 +1,117 @@
 -- Where a run stands, and what each event of main leaves.
-use Rattle.std.specs.Prelude.{◌≡◌, ℕ, ◌+◌, ◌*◌, ◌≤◌, Bool, List, Option, Some, None, Result, Ok, Err}
+use Rattle.std.specs.Prelude.{◌≡◌, ℕ, ◌+◌, ◌^◌, ◌<◌, ◌≤◌, List, map, sum_by, count_by, Option, Some, None, Result, Ok, Err}
 use Rattle.std.specs.Io.KnownBytes.{Appends}
 use Rattle.cal_base.specs.declared.ends.RunEnd.{RunEnd}
-use Rattle.cal_base.specs.declared.step.TheConstants.{CALLER}
-use Rattle.cal_base.specs.declared.step.WorkerTally.{WorkerTally}
-use Rattle.cal_base.specs.Contents.{AppendsPrefix}
-use Rattle.cal_base.specs.Main.{Main, Event, meaning_of, IsNumbered}
+use Rattle.cal_base.specs.History.{claims_by, is_worker}
+use Rattle.cal_base.specs.Claims.{StepJob, size_of}
+use Rattle.cal_base.specs.Contents.{AppendsPrefix, Told}
+use Rattle.cal_base.specs.Main.{Main, Opens, Event, meaning_of, steps_of, IsNumbered}
 use Rattle.cal_base.specs.Text.{text_of}
 use Rattle.bytecode.specs.declared.module.Module.{Module}
 use Rattle.machine_meaning.specs.Meaning.{main_of}
 use Rattle.routine_vm.specs.Held.{main_state, MayGoOn}
-use Rattle.step_laws.specs.Closed.{ClosedStep}
-use Rattle.engine_laws.specs.Steps.{TakesUnits}
+use Rattle.step_laws.specs.Closed.{ClosedStep, Each}
+use Rattle.engine_laws.specs.Steps.{TakesUnits, step_job}
 use Rattle.engine_laws.specs.Ran.{RunsTo, RunsThrough, callers_claims}
-use Rattle.worker_gate.specs.Working.{WorkerState, MayWork, with_claims}
+use Rattle.run_report.specs.Logs.{TracedStep, Trace, log_text}
+use Rattle.step_board.specs.Counted.{is_current}
+use Rattle.worker_gate.specs.Worked.{ends, total}
+use Rattle.calypso_engine.specs.Asked.{log_of, Outside}
+use Rattle.calypso_engine.specs.Kept.{HasRoom}
+use Rattle.calypso_engine.specs.Logs.{Logs, LogsFrontOf}
+use Rattle.calypso_engine.specs.Teams.{ClaimedMore, IsTeam}
+use Rattle.calypso_engine.specs.Traces.{WaitsForWorkers}
+use Rattle.calypso_engine.specs.declared.team.Team.{Team}
 use Rattle.calypso_engine.specs.declared.event.Standing.{Standing}
 use Rattle.calypso_engine.specs.declared.error.RunError.{RunError}
+use Rattle.calypso_engine.specs.declared.error.RunError.TheVariants.{NoMemory}
+use Rattle.calypso_engine.specs.declared.options.RunOptions.{RunOptions}
 
 -- what is left of main, in a run with this fuel
 abbrev pub rest_of : Module → ℕ → Standing → Main
 rest_of m fuel s = main_of m fuel s.steps (main_state m s.machine s.image.memory)
 
--- main may go on; the caller may work; steps are counted, and there is a unit of the run's fuel for each that is to come
-pub record IsReady (m : Module) (fuel : ℕ) (s : Standing) (worker : WorkerState) : Type 0 where
-  pub may : MayGoOn m s.machine
-  pub work : MayWork worker s.image.memory m
-  pub caller : worker.tally.who ≡ CALLER
-  pub numbered : IsNumbered s.steps (rest_of m fuel s)
-  pub left : ℕ
-  pub units : TakesUnits left (rest_of m fuel s)
-  pub counted : s.steps + left ≡ fuel
-  pub claims : worker.tally.claims ≤ 65536 * s.steps
+-- the step that main opens where the run stands, of the blocks from the first one on
+abbrev pub job_here : Module → (fuel first : ℕ) → Standing → StepJob
+job_here m fuel first s = step_job m fuel (s.steps + 1) s.image.memory first s.machine.widths
 
--- main went on: it showed some events, whose text was appended, and closed some steps, in which the caller claimed as its tally says
-pub record WentOn (m : Module) (fuel : ℕ) (steps : Bool) (before after : Standing) (old new : WorkerTally) (was now : Option (List ℕ)) : Type 0 where
+-- what is left of main where it opens this step
+abbrev pub opening_here : Module → (fuel first : ℕ) → Standing → Main
+opening_here m fuel first s = Opens (job_here m fuel first s) (λ later. main_of m fuel (s.steps + 1) (main_state m s.machine later))
+
+-- main may go on; the team may work; steps are counted, and there is a unit of the run's fuel for each that is to come
+pub record IsReady (m : Module) (options : RunOptions) (s : Standing) (team : Team) : Type 0 where
+  pub may : MayGoOn m s.machine
+  pub working : IsTeam options.script.now options.workers s.steps s.image m team
+  pub room : HasRoom options.steps s.image.memory s.kept
+  pub numbered : IsNumbered s.steps (rest_of m options.fuel s)
+  pub left : ℕ
+  pub units : TakesUnits left (rest_of m options.fuel s)
+  pub counted : s.steps + left ≡ options.fuel
+  pub limit : options.fuel < 2 ^ 32
+  pub few : options.workers ≤ 32
+
+-- a closed step, as a log shows it
+abbrev pub traced : ClosedStep → TracedStep
+traced step = record { number = step.job.number; size = size_of step.job; history = step.history }
+
+-- closed steps, as a log shows them
+abbrev pub trace_of : List ClosedStep → Trace
+trace_of closed = map traced closed
+
+-- some events were shown and some steps closed: out got the text of the events, and the log the histories of the steps
+pub record Tells (options : RunOptions) (shown : List Event) (closed : List ClosedStep) (was now : Outside) : Type 0 where
+  pub written : Appends was.out now.out (text_of options.steps shown)
+  pub logged : Told was.files now.files (Logs (log_of options) (log_text (trace_of closed)))
+
+-- in some closed steps the team did what its tallies say; and a worker that goes on behind them found no more work in each, so that the caller waited
+pub record Counted (closed : List ClosedStep) (old new : Team) : Type 0 where
+  pub claims : sum_by (λ step. claims_by is_worker step.history) closed + total (λ t. t.claims) old.workers.items ≡ total (λ t. t.claims) new.workers.items
+  pub arrivals :
+      sum_by (λ step. count_by is_current step.history) closed + (total (λ t. t.lost) new.workers.items + total (λ t. t.held) new.workers.items)
+      + (total (λ t. t.executed) old.workers.items + total (λ t. t.repeated) old.workers.items)
+      ≡ (total (λ t. t.executed) new.workers.items + total (λ t. t.repeated) new.workers.items) + (total (λ t. t.lost) old.workers.items + total (λ t. t.held) old.workers.items)
+  pub caller : ClaimedMore old.caller.tally (callers_claims closed) new.caller.tally
+  pub goes_on : sum_by ends new.workers.items ≤ sum_by ends old.workers.items
+  pub waits : 0 < sum_by ends new.workers.items → Each (λ step. WaitsForWorkers (traced step)) closed
+
+-- main went on: it showed some events and closed some steps, which were told and counted
+pub record WentOn (m : Module) (options : RunOptions) (main : Main) (after : Standing) (old new : Team) (was now : Outside) : Type 0 where
   pub shown : List Event
   pub closed : List ClosedStep
-  pub runs : RunsTo (rest_of m fuel before) (rest_of m fuel after) shown closed
-  pub written : Appends was now (text_of steps shown)
-  pub tally : new ≡ with_claims old (callers_claims closed)
+  pub runs : RunsTo main (rest_of m options.fuel after) shown closed
+  pub told : Tells options shown closed was now
+  pub counted : Counted closed old new
 
 -- main came to this end
-pub record CameTo (m : Module) (fuel : ℕ) (steps : Bool) (before : Standing) (ending : RunEnd) (old new : WorkerTally) (was now : Option (List ℕ)) : Type 0 where
+pub record CameTo (options : RunOptions) (main : Main) (ending : RunEnd) (old new : Team) (was now : Outside) : Type 0 where
   pub shown : List Event
   pub closed : List ClosedStep
-  pub runs : RunsThrough (rest_of m fuel before) shown closed ending
-  pub written : Appends was now (text_of steps shown)
-  pub tally : new ≡ with_claims old (callers_claims closed)
+  pub runs : RunsThrough main shown closed ending
+  pub told : Tells options shown closed was now
+  pub counted : Counted closed old new
 
--- main went on or came to its end; where the run gave up, a front of the text that was left was appended
-abbrev pub Goes : Module → ℕ → Bool → Standing → Standing → WorkerTally → WorkerTally → Option (List ℕ) → Option (List ℕ) → Result (Option RunEnd) RunError → Type 0
-Goes m fuel steps before after old new was now (Ok None) = WentOn m fuel steps before after old new was now
-Goes m fuel steps before after old new was now (Ok (Some ending)) = CameTo m fuel steps before ending old new was now
-Goes m fuel steps before after old new was now (Err error) = AppendsPrefix was now (text_of steps (meaning_of (rest_of m fuel before)).events)
+-- the run stopped between two events: what main showed so far was told, with the whole history of each step that it closed
+pub record StoppedBetween (options : RunOptions) (main : Main) (was now : Outside) : Type 0 where
+  pub rest : Main
+  pub shown : List Event
+  pub closed : List ClosedStep
+  pub runs : RunsTo main rest shown closed
+  pub told : Tells options shown closed was now
+
+-- the run gave up: out got a front of main's text, and the log one of that of a trace of its steps; for want of memory it stops between events
+pub record GaveUp (options : RunOptions) (main : Main) (error : RunError) (was now : Outside) : Type 0 where
+  pub front : AppendsPrefix was.out now.out (text_of options.steps (meaning_of main).events)
+  pub logged : LogsFrontOf (steps_of main) (log_of options) was.files now.files
+  pub between : error ≡ NoMemory → StoppedBetween options main was now
+
+-- main went on or came to its end, or the run gave up
+abbrev pub Goes : Module → RunOptions → Main → Standing → Team → Team → Outside → Outside → Result (Option RunEnd) RunError → Type 0
+Goes m options main after old new was now (Ok None) = WentOn m options main after old new was now
+Goes m options main after old new was now (Ok (Some ending)) = CameTo options main ending old new was now
+Goes m options main after old new was now (Err error) = GaveUp options main error was now
 
 -- main came to its end, or the run gave up
-abbrev pub Comes : Module → ℕ → Bool → Standing → WorkerTally → WorkerTally → Option (List ℕ) → Option (List ℕ) → Result RunEnd RunError → Type 0
-Comes m fuel steps before old new was now (Ok ending) = CameTo m fuel steps before ending old new was now
-Comes m fuel steps before old new was now (Err error) = AppendsPrefix was now (text_of steps (meaning_of (rest_of m fuel before)).events)
+abbrev pub Comes : RunOptions → Main → Team → Team → Outside → Outside → Result RunEnd RunError → Type 0
+Comes options main old new was now (Ok ending) = CameTo options main ending old new was now
+Comes options main old new was now (Err error) = GaveUp options main error was now

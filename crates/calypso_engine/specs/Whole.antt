@@ -1,16 +1,22 @@
 -- What a whole run tells of its steps.
-use Rattle.std.specs.Prelude.{◌≡◌, List, [], ◌∷◌}
-use Rattle.cal_base.specs.declared.step.TheConstants.{CALLER}
+use Rattle.std.specs.Prelude.{◌≡◌, List}
+use Rattle.std.specs.declared.option.Option.{Option}
 use Rattle.cal_base.specs.declared.step.WorkerTally.{WorkerTally}
-use Rattle.cal_base.specs.Main.{Main, steps_of}
-use Rattle.step_laws.specs.Closed.{ClosedStep}
-use Rattle.step_laws.specs.Closed.{Each, IsWhole, jobs_in}
-use Rattle.engine_laws.specs.Ran.{callers_claims}
-use Rattle.worker_gate.specs.Working.{first_tally, with_claims}
+use Rattle.cal_base.specs.Claims.{StepJob}
+use Rattle.cal_base.specs.Contents.{Contents, Told}
+use Rattle.run_report.specs.Logs.{Trace, log_text}
+use Rattle.calypso_engine.specs.Asked.{log_of}
+use Rattle.calypso_engine.specs.Logs.{Logs}
+use Rattle.calypso_engine.specs.Traces.{IsTraceOf, Tallies, in_order, AreTalliesOf, FollowScript, Agree}
+use Rattle.calypso_engine.specs.declared.options.RunOptions.{RunOptions}
 
--- the steps that the meaning of main opens, in order, were closed, each by a legal and complete history, and the caller's tally has its claims in them
-pub record ClosesSteps (main : Main) (tallies : List WorkerTally) : Type 0 where
-  pub closed : List ClosedStep
-  pub steps : jobs_in closed ≡ steps_of main
-  pub whole : Each IsWhole closed
-  pub tallies_are : tallies ≡ with_claims (first_tally CALLER) (callers_claims closed) ∷ []
+-- the steps were closed by legal and complete histories, which went to the log where one is named; the tallies follow the script and agree with them
+pub record TellsRun (jobs : List StepJob) (options : RunOptions) (report : List WorkerTally) (held holds : Option Contents) : Type 0 where
+  pub trace : Trace
+  pub tallies : Tallies
+  pub traced : IsTraceOf jobs trace
+  pub logged : Told held holds (Logs (log_of options) (log_text trace))
+  pub order : report ≡ in_order tallies
+  pub workers : AreTalliesOf options.workers tallies
+  pub follow : FollowScript options.script.now tallies
+  pub agree : Agree trace tallies

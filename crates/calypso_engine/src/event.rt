@@ -1,29 +1,36 @@
 //! Main, from one event to the next.
 
-ghost use Rattle.std.specs.Prelude.{◌≡◌, ◌+◌, ◌<◌, ◌≤◌, ◌^◌, false, [], None, Ok, IfOk, IsErrOf, length};
+ghost use Rattle.std.specs.Prelude.{◌≡◌, ◌+◌, ◌<◌, ◌≤◌, ◌^◌, [], None, Ok, IfOk, IfSome, IsSome, IsErrOf, length};
 ghost use Rattle.cal_base.specs.Causes.{Rose};
-ghost use Rattle.cal_base.specs.Memory.{kinds_of};
+ghost use Rattle.cal_base.specs.Contents.{StaysTrue};
 ghost use Rattle.machine_meaning.specs.Runs.{most_steps};
 ghost use Rattle.routine_vm.specs.Held.{main_state, TellsStep};
-ghost use Rattle.worker_gate.specs.Working.{MayWork};
-ghost use Rattle.calypso_engine.specs.Steps.{StepRan};
-ghost use Rattle.calypso_engine.specs.Running.{IsReady, Goes};
+ghost use Rattle.calypso_engine.specs.Asked.{outside_of};
+ghost use Rattle.calypso_engine.specs.Running.{rest_of, opening_here, IsReady, Goes};
+ghost use Rattle.calypso_engine.specs.Stepping.{MayStep, IsBehind};
+ghost use Rattle.calypso_engine.specs.Teams.{HasTallies};
 ghost use Rattle.calypso_engine.specs.declared.error.RunError.TheVariants as error;
 
 use crate::error::RunError;
 use crate::line::print;
+use crate::options::RunOptions;
 use crate::step::open_step;
-use cal_base::{CALLER, Image, NoMemory, RunEnd, Sink};
+use crate::team::Team;
+use crate::telling::{keep_words, tell_step};
+use cal_base::{Files, Gate, Image, NoMemory, RunEnd, Sink};
 use code_verify::Verified;
 use routine_vm::{Machine, MainEvent};
 use std::alloc::Global;
-use worker_gate::Worker;
+use std::sync::Wait;
+use std::thread::Threads;
 
-/// Where a run stands: main's machine, shared memory, and how many steps are completed.
+/// Where a run stands: main's machine, shared memory, the words before the last step where steps are shown, and how many steps are
+/// completed.
 #[derive(Drop)]
 pub struct Standing {
     pub machine: Machine,
     pub image: Image,
+    pub kept: Option<Image>,
     pub steps: u64,
 }
 
@@ -39,38 +46,59 @@ fn widths_of(alloc: Global, machine: &Machine, blocks: u32) -> Result<Vec<u32>, 
     Ok(widths)
 }
 
-/// Main opens a step, which the caller completes. Answers the end of the run where the step ends in a fault.
-fn step(
+/// Main opens a step, in which the workers work and which the caller completes, and which is told. Answers the end of the run where the step ends in a fault.
+fn step<F: Files, S: Sink, G: Gate, R: Threads + Wait + Sync>(
+    rt: &R,
     alloc: Global,
     code: &Verified,
-    fuel: u32,
+    options: &RunOptions<'_>,
     standing: &mut Standing,
-    worker: &mut Worker,
+    team: &mut Team,
+    files: &mut F,
+    out: &mut S,
     first_block: u32,
     blocks: u32,
     total: u32,
-) -> Result<Option<RunEnd>, NoMemory>
+    gate: &G,
+) -> Result<Option<RunEnd>, RunError>
     requires told { TellsStep code.now first_block blocks total standing.old.machine }
-    requires caller { worker.old.tally.who ≡ CALLER }
-    requires may { MayWork worker.old standing.old.image.memory code.now }
-    requires fits { worker.old.tally.claims + total < 2 ^ 64 }
-    requires counted { standing.old.steps + 1 < 2 ^ 64 }
-    ensures ran { IfOk result (λ ended. StepRan code.now fuel first_block standing.old standing.new worker.old.tally worker.new.tally ended) }
-    ensures room { worker.new.words ≡ worker.old.words }
-    ensures kinds { kinds_of standing.new.image.memory ≡ kinds_of standing.old.image.memory }
+    requires may { MayStep code.now options.now first_block standing.old team.old }
+    requires created { IfSome options.now.log (λ name. F.created files.old name.now) }
+    ensures goes { Goes code.now options.now (opening_here code.now options.now.fuel first_block standing.old) standing.new team.old team.new (outside_of (S.written out.old) (F.holds files.old)) (outside_of (S.written out.new) (F.holds files.new)) result }
+    ensures behind { result ≡ Ok None → IsBehind code.now options.now standing.old standing.new team.new }
+    ensures tallies { IfOk result (λ _. HasTallies options.now.script.now options.now.workers team.new) }
+    ensures created { StaysTrue (F.created files.old) (F.created files.new) }
+    ensures files_later { F.faults files.old ≤ F.faults files.new }
+    ensures out_later { S.faults out.old ≤ S.faults out.new }
+    ensures file_failed { IsErrOf result error.FileFailed → Rose (F.faults files.old) (F.faults files.new) }
+    ensures log_failed { IsErrOf result error.FileFailed → IsSome options.now.log }
+    ensures out_failed { IsErrOf result error.OutFailed → Rose (S.faults out.old) (S.faults out.new) }
 {
     let widths = widths_of(alloc, &standing.machine, blocks)?;
+    keep_words(&standing.image, &mut standing.kept);
     let step = standing.steps + 1;
     let closed = open_step(
+        rt,
         alloc,
-        step,
+        options,
+        standing.steps,
         &mut standing.image,
         code,
         first_block,
         widths.as_slice(),
         total,
-        fuel,
-        worker,
+        team,
+        gate,
+    )?;
+    tell_step(
+        options,
+        step,
+        total,
+        &closed,
+        &standing.kept,
+        &standing.image,
+        files,
+        out,
     )?;
     match closed.result {
         Ok(()) => {
@@ -82,21 +110,30 @@ fn step(
 }
 
 /// Main goes on to its next event, which is done: a line is written, or a step is opened and completed. Answers the end of the run where
-/// main came to it.
-pub fn event<S: Sink>(
+/// main came to it. It may wait.
+pub fn event<F: Files, S: Sink, G: Gate, R: Threads + Wait + Sync>(
+    rt: &R,
     alloc: Global,
     code: &Verified,
-    fuel: u32,
+    options: &RunOptions<'_>,
     standing: &mut Standing,
-    worker: &mut Worker,
+    team: &mut Team,
+    files: &mut F,
     out: &mut S,
+    gate: &G,
 ) -> Result<Option<RunEnd>, RunError>
-    requires { IsReady code.now fuel standing.old worker.old }
-    ensures goes { Goes code.now fuel false standing.old standing.new worker.old.tally worker.new.tally (S.written out.old) (S.written out.new) result }
-    ensures ready { result ≡ Ok None → IsReady code.now fuel standing.new worker.new }
+    requires ready { IsReady code.now options.now standing.old team.old }
+    requires created { IfSome options.now.log (λ name. F.created files.old name.now) }
+    ensures goes { Goes code.now options.now (rest_of code.now options.now.fuel standing.old) standing.new team.old team.new (outside_of (S.written out.old) (F.holds files.old)) (outside_of (S.written out.new) (F.holds files.new)) result }
+    ensures ready { result ≡ Ok None → IsReady code.now options.now standing.new team.new }
     ensures falls { result ≡ Ok None → most_steps code.now (main_state code.now standing.new.machine []) < most_steps code.now (main_state code.now standing.old.machine []) }
-    ensures later { S.faults out.old ≤ S.faults out.new }
-    ensures failed { IsErrOf result error.OutFailed → Rose (S.faults out.old) (S.faults out.new) }
+    ensures tallies { IfOk result (λ _. HasTallies options.now.script.now options.now.workers team.new) }
+    ensures created { StaysTrue (F.created files.old) (F.created files.new) }
+    ensures files_later { F.faults files.old ≤ F.faults files.new }
+    ensures out_later { S.faults out.old ≤ S.faults out.new }
+    ensures file_failed { IsErrOf result error.FileFailed → Rose (F.faults files.old) (F.faults files.new) }
+    ensures log_failed { IsErrOf result error.FileFailed → IsSome options.now.log }
+    ensures out_failed { IsErrOf result error.OutFailed → Rose (S.faults out.old) (S.faults out.new) }
 {
     let _verified = code.module();
     match standing.machine.run_main(code, &mut standing.image) {
@@ -108,19 +145,20 @@ pub fn event<S: Sink>(
             first_block,
             blocks,
             total,
-        } => {
-            let ended = step(
-                alloc,
-                code,
-                fuel,
-                standing,
-                worker,
-                first_block,
-                blocks,
-                total,
-            )?;
-            Ok(ended)
-        }
+        } => step(
+            rt,
+            alloc,
+            code,
+            options,
+            standing,
+            team,
+            files,
+            out,
+            first_block,
+            blocks,
+            total,
+            gate,
+        ),
         MainEvent::Halt => Ok(Some(RunEnd::Done {
             steps: standing.steps,
         })),

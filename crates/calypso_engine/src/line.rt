@@ -1,6 +1,6 @@
 //! The lines that main shows.
 
-ghost use Rattle.std.specs.Prelude.{◌≡◌, ◌≤◌, ◌++◌, length, map, IfOk, OnOk, OnErr, IsErrOf};
+ghost use Rattle.std.specs.Prelude.{◌≡◌, ◌≤◌, ◌++◌, [], length, map, IfOk, OnOk, OnErr, IsErrOf};
 ghost use Rattle.std.specs.Io.KnownBytes.{Appends};
 ghost use Rattle.cal_base.specs.Causes.{Rose};
 ghost use Rattle.cal_base.specs.Contents.{AppendsPrefix};
@@ -76,10 +76,14 @@ pub fn print<S: Sink>(
     requires { items ≡ length machine.now.items }
     ensures ok { OnOk result (Appends (S.written out.old) (S.written out.new) (printing.line_of (map (piece_of code.now) machine.now.items))) }
     ensures err { OnErr result (AppendsPrefix (S.written out.old) (S.written out.new) (printing.line_of (map (piece_of code.now) machine.now.items))) }
+    ensures memory { IsErrOf result error.NoMemory → Appends (S.written out.old) (S.written out.new) [] }
+    ensures named { IsErrOf result error.FileFailed → ⊥ }
     ensures later { S.faults out.old ≤ S.faults out.new }
     ensures failed { IsErrOf result error.OutFailed → Rose (S.faults out.old) (S.faults out.new) }
 {
     let line = line_of(alloc, code, machine, items)?;
-    write_all(out, line.as_slice())?;
-    Ok(())
+    match write_all(out, line.as_slice()) {
+        Ok(()) => Ok(()),
+        Err(_) => Err(RunError::OutFailed),
+    }
 }

@@ -117,20 +117,9 @@ fn statuses(rt: HostRuntime) -> Result<(), Fail> {
 
 #[test]
 fn commands_that_are_not_served(rt: HostRuntime) -> Result<(), Fail> {
-    let lists: [&[&str]; 13] = [
+    let lists: [&[&str]; 2] = [
         &["sim", "p.csl", "e"],
-        &["gen", "7", "1"],
-        &["selfrun", "7", "1"],
-        &["run", "p.csl", "--workers", "1"],
-        &["run", "p.csl", "--frames", "2"],
-        &["run", "p.csl", "--script", "s"],
-        &["run", "p.csl", "--log", "l"],
-        &["run", "p.csl", "--report"],
-        &["run", "p.csl", "--steps"],
         &["sim", "p.csl", "p.csl", "--log=l"],
-        &["exec", "p.csl", "--steps"],
-        &["exec", "p.csl", "--fuel", "5", "--report"],
-        &["exec", "p.csl", "--workers", "1"],
     ];
     for list in lists {
         let called = call_failing(&rt, rt.alloc(), list, GOOD, (0, 0, 0))?;
@@ -200,8 +189,12 @@ fn plain_does_what_the_top_call_does(rt: HostRuntime) -> Result<(), Fail> {
     let file = String::from_str(alloc, "p.csl")?;
     let eval = Command::Eval { file };
     assert_eq!(rt; plain(alloc, &eval, &mut files, &mut out, &mut err), 0);
-    let generated = Command::Gen { number: 7, size: 1 };
-    assert_eq!(rt; plain(alloc, &generated, &mut files, &mut out, &mut err), 2);
+    let simulated = Command::Sim {
+        file: String::from_str(alloc, "p.csl")?,
+        events: String::from_str(alloc, "e")?,
+        log: None,
+    };
+    assert_eq!(rt; plain(alloc, &simulated, &mut files, &mut out, &mut err), 2);
     let text = b"shared {\n}\nmain {\n  print ( 1 ) ;\n}\n1\n".as_slice();
     assert_eq!(rt; out.bytes(), text);
     assert_eq!(rt; err.bytes(), b"no command\n".as_slice());

@@ -263,7 +263,8 @@ fn the_program_over_real_files(rt: HostRuntime) -> Result<(), Fail> {
             b"refused: at 1048576: unexpected\n",
         ),
         (&["run", "long.csl"], 9, b"", b"file long.csl: too long\n"),
-        (&["run", "good.csl", "--log", "l"], 2, b"", b"no command\n"),
+        (&["run", "good.csl", "--log", "l"], 0, b"7\n", b""),
+        (&["run", "good.csl", "--log"], 2, b"", b"no command\n"),
     ];
     for (words, status, text, line) in rows {
         let words = strings(alloc, words)?;
@@ -278,7 +279,9 @@ fn the_program_over_real_files(rt: HostRuntime) -> Result<(), Fail> {
         assert_eq!(rt; answer, *status);
     }
     let mut files = HostFiles::make(&rt);
-    assert!(rt; files.load(alloc, "l", 9).is_err());
+    let log = files.load(alloc, "l", 9).ok().ok_or("a log")?;
+    assert!(rt; log.is_empty());
+    remove_file(&rt, "l")?;
     remove_file(&rt, "good.csl")?;
     remove_file(&rt, "long.csl")?;
     remove_file(&rt, "most.csl")?;

@@ -25,3 +25,5 @@ mod tokens;
 mod trees;
 #[cfg(test)]
 mod words;
+#[cfg(test)]
+mod workers;

@@ -47,8 +47,8 @@ fn command_text(alloc: Global, command: &Command) -> Result<String, AllocError> 
             let flags = flags_text(alloc, flags)?;
             format!(in alloc; "exec {module} {flags}")
         }
-        Command::Gen { number, size } => format!(in alloc; "gen {number} {size}"),
-        Command::Selfrun { number, size } => format!(in alloc; "selfrun {number} {size}"),
+        Command::Gen(it) => format!(in alloc; "gen {} {}", it.number, it.size),
+        Command::Selfrun(it) => format!(in alloc; "selfrun {} {}", it.number, it.size),
     }
 }
 

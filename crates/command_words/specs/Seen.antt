@@ -30,8 +30,8 @@ command_seen (Run file flags) = spec.run (string_bytes file) (flags_seen flags)
 command_seen (Sim file events log) = spec.sim (string_bytes file) (string_bytes events) (option_map string_bytes log)
 command_seen (Build file into) = spec.build (string_bytes file) (string_bytes into)
 command_seen (Exec file flags) = spec.exec (string_bytes file) (flags_seen flags)
-command_seen (Gen number size) = spec.gen number size
-command_seen (Selfrun number size) = spec.selfrun number size
+command_seen (Gen program) = spec.gen program.number program.size
+command_seen (Selfrun program) = spec.selfrun program.number program.size
 
 -- the part of a command line
 abbrev pub part_seen : Part → words.Part

@@ -1,8 +1,10 @@
 //! Commands with their operands and options, and why words give none.
 
+ghost use Rattle.std.specs.Prelude.{◌≤◌};
+
 use std::alloc::{AllocError, AllocFailed};
 
-/// The options of a run.
+/// The options of a run, each within its range.
 #[derive(Debug, Drop)]
 pub struct Flags {
     /// How many worker threads there are: 0 to 32.
@@ -19,6 +21,21 @@ pub struct Flags {
     pub report: bool,
     /// Whether the output gets the words that each step changed.
     pub steps: bool,
+    pub ghost most_workers: { workers ≤ 32 },
+    pub ghost least_fuel: { 1 ≤ fuel },
+    pub ghost least_frames: { 2 ≤ frames },
+    pub ghost most_frames: { frames ≤ 4096 },
+}
+
+/// Which generated program is meant.
+#[derive(Clone, Copy, Debug, PartialEq, Eq)]
+pub struct Generated {
+    /// Its number: any.
+    pub number: u32,
+    /// How many steps it has: 1 to 4,096.
+    pub size: u32,
+    pub ghost least: { 1 ≤ size },
+    pub ghost most: { size ≤ 4096 },
 }
 
 /// A command with its operands. What each does is told in `docs/RUNTIME.md`.
@@ -53,16 +70,10 @@ pub enum Command {
         module: String,
         flags: Flags,
     },
-    /// Writes a generated program: its number is any, its size 1 to 4,096.
-    Gen {
-        number: u32,
-        size: u32,
-    },
+    /// Writes a generated program.
+    Gen(Generated),
     /// Runs a generated program.
-    Selfrun {
-        number: u32,
-        size: u32,
-    },
+    Selfrun(Generated),
 }
 
 /// Why words were not read.

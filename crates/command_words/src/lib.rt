@@ -8,5 +8,5 @@ mod part;
 mod read;
 pub mod rows;
 
-pub use command::{Command, Flags, WordsError};
+pub use command::{Command, Flags, Generated, WordsError};
 pub use read::read_words;

@@ -49,6 +49,7 @@ pub(crate) fn number_or(text: Option<&str>, usual: u32, least: u32, most: u32) -
     requires low { least ≤ usual }
     requires high { usual ≤ most }
     ensures number { result ≡ words.number_or usual least most (option_map (λ t. t.now) text.entry) }
+    ensures least { IfSome result (λ n. least ≤ n) }
     ensures most { IfSome result (λ n. n ≤ most) }
 {
     match text {

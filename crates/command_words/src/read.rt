@@ -8,7 +8,7 @@ ghost use Rattle.command_words.specs.Commands.{build as build_of};
 ghost use Rattle.command_words.specs.declared.name.Verb.TheVariants.{Run, Exec, Sim};
 ghost use Rattle.command_words.specs.declared.command.WordsError.TheVariants.{NoCommand};
 
-use crate::command::{Command, Flags, WordsError};
+use crate::command::{Command, Flags, Generated, WordsError};
 use crate::name::{Setting, Verb};
 use crate::number::{number_between, number_or};
 use crate::part::{Part, are_single, is_set, operands_in, parts_of, value_in};
@@ -36,13 +36,13 @@ fn two_in<'a>(operands: &[&'a str]) -> Option<(&'a str, &'a str)>
 }
 
 /// The number and the size of a generated program.
-fn numbers_in(operands: &[&str]) -> Option<(u32, u32)>
-    ensures { result ≡ words.numbers_in (words.two_in (map (λ text. text.now) operands.now)) }
+fn numbers_in(operands: &[&str]) -> Option<Generated>
+    ensures { option_map (λ program. (program.number, program.size)) result ≡ words.numbers_in (words.two_in (map (λ text. text.now) operands.now)) }
 {
     let (number, size) = two_in(operands)?;
     let number = number_between(number, 0, 4_294_967_295)?;
     let size = number_between(size, 1, 4096)?;
-    Some((number, size))
+    Some(Generated { number, size })
 }
 
 /// A text of its own, where there is one.
@@ -151,11 +151,11 @@ fn command_by(
         Verb::Build => build(alloc, operands),
         Verb::Exec => exec(alloc, operands, parts),
         Verb::Gen => match numbers_in(operands) {
-            Some((number, size)) => Ok(Command::Gen { number, size }),
+            Some(program) => Ok(Command::Gen(program)),
             None => Err(WordsError::NoCommand),
         },
         Verb::Selfrun => match numbers_in(operands) {
-            Some((number, size)) => Ok(Command::Selfrun { number, size }),
+            Some(program) => Ok(Command::Selfrun(program)),
             None => Err(WordsError::NoCommand),
         },
     }

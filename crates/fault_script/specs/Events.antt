@@ -1,5 +1,6 @@
 -- What a list of events says, as bytes.
-use Rattle.std.specs.Prelude.{ℕ, ◌+◌, ◌==◌, nat_le, nat_lt, Bool, true, false, not, ◌&&◌, if◌then◌else◌, List, [], ◌∷◌, length, codes, Option, Some, None, option_map, is_some, Result, Ok, Err, filter_map, position}
+use Rattle.std.specs.Prelude.{ℕ, ◌+◌, ◌==◌, nat_le, nat_lt, Bool, true, false, not, ◌&&◌, if◌then◌else◌, List, [], ◌∷◌, length, codes}
+use Rattle.std.specs.Prelude.{Option, Some, None, option_map, is_some, Result, Ok, Err, filter_map, position}
 use Rattle.std.specs.List.{list_all, before_first, after_first}
 use Rattle.std.specs.Str.{bytes_eq}
 use Rattle.std.specs.Str.Parse.{digits_value}
@@ -54,17 +55,21 @@ number_between least most text =
 abbrev pub worker_in : List ℕ → Option ℕ
 worker_in text = number_between 0 31 text
 
--- a worker fetches a page
+-- a worker fetches a page, if both are there
 abbrev pub fetch_by : Option ℕ → Option ℕ → Option Event
 fetch_by None page = None
 fetch_by (Some who) None = None
 fetch_by (Some who) (Some page) = Some (Fetch who page)
 
+-- the fetch that stands behind the name: a worker, one blank, and a page
+abbrev pub fetch_in : List ℕ → Option Event
+fetch_in rest = fetch_by (worker_in (before_first is_blank rest)) (number_between 0 4294967295 (after_first is_blank rest))
+
 -- the event of this name, with what stands behind the name: a worker, a worker and a page, or a delivery
 abbrev pub event_named : (name rest : List ℕ) → Option Event
 event_named name rest =
     if bytes_eq name (codes "claim") then option_map (λ who. Claim who) (worker_in rest)
-    else if bytes_eq name (codes "fetch") then fetch_by (worker_in (before_first is_blank rest)) (number_between 0 4294967295 (after_first is_blank rest))
+    else if bytes_eq name (codes "fetch") then fetch_in rest
     else if bytes_eq name (codes "finish") then option_map (λ who. Finish who) (worker_in rest)
     else if bytes_eq name (codes "arrive") then option_map (λ number. Arrive number) (number_between 1 4294967295 rest)
     else if bytes_eq name (codes "stop") then option_map (λ who. Stop who) (worker_in rest)

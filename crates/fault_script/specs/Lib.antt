@@ -5,3 +5,4 @@ pub mod EventRows
 pub mod Pieces
 pub mod Scripts
 pub mod ScriptRows
+pub mod Fixed

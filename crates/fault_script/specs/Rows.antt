@@ -13,9 +13,13 @@ pub record Row : Type 0 where
   pub repeat : List ℕ
   pub hold : List ℕ
 
+-- a row of these parts
+abbrev pub row_from : (number : ℕ) → (stop_at : Option ℕ) → (lose repeat hold : List ℕ) → Row
+row_from number stop_at lose repeat hold = record { number = number; stop_at = stop_at; lose = lose; repeat = repeat; hold = hold }
+
 -- a worker of which nothing is said only delivers
 abbrev pub plain_row : ℕ → Row
-plain_row who = record { number = who; stop_at = None; lose = []; repeat = []; hold = [] }
+plain_row who = row_from who None [] [] []
 
 -- what the script says of this worker
 abbrev pub row_of : List Row → ℕ → Row

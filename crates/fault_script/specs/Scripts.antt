@@ -4,7 +4,7 @@ use Rattle.std.specs.List.{list_all, list_any}
 use Rattle.std.specs.Str.{bytes_eq, is_utf8}
 use Rattle.toml.specs.Data.{Data, integer, array, table, Items, no_items, item, Members, no_members, member, get_member}
 use Rattle.toml.specs.Parse.{parse_document}
-use Rattle.fault_script.specs.Rows.{Row, has}
+use Rattle.fault_script.specs.Rows.{Row, row_from, has}
 use Rattle.fault_script.specs.declared.error.ScriptError.{ScriptError}
 use Rattle.fault_script.specs.declared.error.ScriptError.TheVariants as error
 
@@ -74,6 +74,14 @@ row_keys = codes "number" ∷ codes "stop_at" ∷ codes "lose" ∷ codes "repeat
 abbrev pub stop_in : Data → Option (Option ℕ)
 stop_in value = option_map (λ n. Some n) (number_in 1 4294967295 value)
 
+-- the number of a row's worker
+abbrev pub number_under : Members → Option ℕ
+number_under members = read_or None (number_in 0 31) (get_member (codes "number") members)
+
+-- at which claim a row's worker stops, or that it does not
+abbrev pub stop_under : Members → Option (Option ℕ)
+stop_under members = read_or (Some None) stop_in (get_member (codes "stop_at") members)
+
 -- the row, if no number is in two of its lists
 abbrev pub apart : Row → Option Row
 apart row = if are_apart row.lose row.repeat && (are_apart row.lose row.hold && are_apart row.repeat row.hold) then Some row else None
@@ -81,12 +89,12 @@ apart row = if are_apart row.lose row.repeat && (are_apart row.lose row.hold && 
 -- the row that a table is: it has a number, and may have the other keys
 unfoldable pub row_with : Members → Option Row
 row_with members = do
-  number ← read_or None (number_in 0 31) (get_member (codes "number") members)
-  stop_at ← read_or (Some None) stop_in (get_member (codes "stop_at") members)
+  number ← number_under members
+  stop_at ← stop_under members
   lose ← executions_under (codes "lose") members
   repeat ← executions_under (codes "repeat") members
   hold ← executions_under (codes "hold") members
-  apart (record { number = number; stop_at = stop_at; lose = lose; repeat = repeat; hold = hold })
+  apart (row_from number stop_at lose repeat hold)
 
 -- the row that a value is
 abbrev pub row_in : Data → Option Row

@@ -1,7 +1,7 @@
 //! Lists of events.
 
 ghost use Rattle.std.specs.Prelude.{ℕ, ◌≡◌, ◌≤◌, [], ◌++◌, length, true, false, Ok, Err, IfOk, OnOk};
-ghost use Rattle.std.specs.List.{cons_option, before_first, after_first};
+ghost use Rattle.std.specs.List.{cons_option};
 ghost use Rattle.fault_script.specs.Events as events;
 ghost use Rattle.fault_script.specs.declared.error.EventsError.TheVariants.{Refused};
 
@@ -13,7 +13,7 @@ use std::alloc::Global;
 
 /// A worker fetches a page.
 fn fetch_in(text: &[u8]) -> Option<Event>
-    ensures { result ≡ events.fetch_by (events.worker_in (before_first events.is_blank text.now)) (events.number_between 0 4294967295 (after_first events.is_blank text.now)) }
+    ensures { result ≡ events.fetch_in text.now }
 {
     let (who, page) = at_blank(text);
     match (worker_in(who), number_between(page, 0, u32::MAX)) {

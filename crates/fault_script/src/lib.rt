@@ -5,6 +5,7 @@
 mod act;
 mod error;
 mod events;
+mod fixed;
 mod lines;
 mod lists;
 mod number;
@@ -19,6 +20,7 @@ pub use act::Act;
 pub use error::{EventsError, ScriptError};
 pub use event_world::Event;
 pub use events::read_events;
+pub use fixed::selfrun_script;
 pub use reading::read_script;
 pub use row::ScriptRow;
 pub use script::Script;

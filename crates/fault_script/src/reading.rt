@@ -1,8 +1,7 @@
 //! Scripts, as bytes.
 
-ghost use Rattle.std.specs.Prelude.{◌≡◌, ◌<◌, ◌≤◌, None, Some, Err, codes, map, IfOk, IfSome};
+ghost use Rattle.std.specs.Prelude.{◌≡◌, ◌<◌, ◌≤◌, None, Some, Err, map, IfOk, IfSome};
 ghost use Rattle.std.specs.List.{AllByRecursion};
-ghost use Rattle.toml.specs.Data.{get_member};
 ghost use Rattle.toml.specs.View.{view, array_view, table_view};
 ghost use Rattle.fault_script.specs.Rows.{AreNumbers, has};
 ghost use Rattle.fault_script.specs.Scripts as scripts;
@@ -18,7 +17,7 @@ use toml::value::{Array, Table};
 
 /// The number of a row's worker.
 fn number_under(table: &Table) -> Result<u8, ScriptError>
-    ensures number { scripts.Reads (λ n. n) result (scripts.read_or None (scripts.number_in 0 31) (get_member (codes "number") (table_view table.now))) }
+    ensures number { scripts.Reads (λ n. n) result (scripts.number_under (table_view table.now)) }
     ensures worker { IfOk result (λ n. n < 32) }
 {
     let Some(value) = value_under(table, "number") else {
@@ -32,7 +31,7 @@ fn number_under(table: &Table) -> Result<u8, ScriptError>
 
 /// At which claim a row's worker stops, if the row says it.
 fn stop_under(table: &Table) -> Result<Option<u32>, ScriptError>
-    ensures stop { scripts.Reads (λ stop_at. stop_at) result (scripts.read_or (Some None) scripts.stop_in (get_member (codes "stop_at") (table_view table.now))) }
+    ensures stop { scripts.Reads (λ stop_at. stop_at) result (scripts.stop_under (table_view table.now)) }
     ensures from_one { IfOk result (λ stop_at. IfSome stop_at (λ at. 1 ≤ at)) }
 {
     let Some(value) = value_under(table, "stop_at") else {
@@ -160,8 +159,8 @@ fn table_in(alloc: Global, bytes: &[u8]) -> Result<Table, ScriptError>
     }
 }
 
-/// The script that the bytes are: TOML whose only key, if any, is `worker`, an array of tables. Each has a `number` of its own, 0 to 31, and may
-/// have `stop_at`, and lists of executions under `lose`, `repeat` and `hold`.
+/// The script that the bytes are: TOML whose only key, if any, is `worker`, an array of tables. Each has a `number` of its own, 0 to 31,
+/// and may have `stop_at`, and lists of executions under `lose`, `repeat` and `hold`.
 pub fn read_script(alloc: Global, bytes: &[u8]) -> Result<Script, ScriptError>
     ensures script { IfOk result (λ script. scripts.script_of bytes.now ≡ Some script) }
     ensures refused { result ≡ Err Refused → scripts.script_of bytes.now ≡ None }

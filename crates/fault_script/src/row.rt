@@ -26,13 +26,13 @@ pub struct ScriptRow {
 }
 
 impl Model for ScriptRow {
-    ghost use Rattle.fault_script.specs.Rows.{Row, IsRow};
+    ghost use Rattle.fault_script.specs.Rows.{Row, IsRow, row_from};
 
     ghost Value = { Row };
 
-    ghost view = { λ r. record { number = r.number; stop_at = r.stop_at; lose = r.lose.items; repeat = r.repeat.items; hold = r.hold.items } };
+    ghost view = { λ r. row_from r.number r.stop_at r.lose.items r.repeat.items r.hold.items };
 
-    ghost invariant = { λ r. IsRow (record { number = r.number; stop_at = r.stop_at; lose = r.lose.items; repeat = r.repeat.items; hold = r.hold.items }) };
+    ghost invariant = { λ r. IsRow (row_from r.number r.stop_at r.lose.items r.repeat.items r.hold.items) };
 }
 
 impl ScriptRow {

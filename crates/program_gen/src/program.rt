@@ -1,6 +1,6 @@
 //! The text of a generated program.
 
-ghost use Rattle.std.specs.Prelude.{◌≡◌, ◌<◌, ◌++◌, codes, IfOk, OnOk};
+ghost use Rattle.std.specs.Prelude.{◌≡◌, ◌<◌, ◌≤◌, ◌++◌, codes, length, IfOk, OnOk};
 ghost use Rattle.std.specs.Fmt.{decimal};
 ghost use Rattle.program_gen.specs.Generated as program;
 ghost use Rattle.program_gen.specs.Generated.{first_value, next_value, values, step_line, steps, generated};
@@ -89,9 +89,11 @@ fn push_steps(text: &mut Vec<u8>, number: u32, size: u32) -> Result<(), NoMemory
     Ok(())
 }
 
-/// The program of this number with `size` steps. Its text is told in `docs/FORMATS.md`.
+/// The program of this number with `size` steps. Its text is told in `docs/FORMATS.md`. With 4,096 steps at most it is no longer than a
+/// program may be.
 pub fn generate(alloc: Global, number: u32, size: u32) -> Result<Vec<u8>, NoMemory>
-    ensures { IfOk result (λ text. text.items ≡ generated number size) }
+    ensures text { IfOk result (λ text. text.items ≡ generated number size) }
+    ensures fits { size ≤ 4096 → IfOk result (λ text. length text.items ≤ 1048576) }
 {
     let mut text = Vec::new(alloc);
     text.extend_from_slice(b"shared {\nint a[256] = {")?;

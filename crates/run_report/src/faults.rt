@@ -1,4 +1,4 @@
-//! The line of a fault.
+//! Lines in pieces, and the line of a fault.
 
 ghost use Rattle.std.specs.Prelude.{◌≡◌, map, OnOk, OnErr};
 ghost use Rattle.std.specs.List.{concat};
@@ -12,8 +12,8 @@ ghost use Rattle.cal_base.specs.declared.ends.StepFault.TheVariants.{Trap, Confl
 use cal_base::{Cause, Failed, RunEnd, Sink, StepFault, write_all};
 use itoa::Buffer;
 
-/// Writes the pieces, one after another.
-fn write_pieces<S: Sink>(sink: &mut S, pieces: &[&[u8]]) -> Result<(), Failed>
+/// Writes the pieces, one after another. Where the sink fails, a front of them was written.
+pub fn write_pieces<S: Sink>(sink: &mut S, pieces: &[&[u8]]) -> Result<(), Failed>
     ensures ok { OnOk result (Appends (S.written sink.old) (S.written sink.new) (concat (map (λ piece. piece.now) pieces.now))) }
     ensures err { OnErr result (AppendsPrefix (S.written sink.old) (S.written sink.new) (concat (map (λ piece. piece.now) pieces.now))) }
     ensures cause { HasCause (S.faults sink.old) (S.faults sink.new) result }

@@ -8,7 +8,7 @@ mod logs;
 mod reports;
 mod steps;
 
-pub use faults::fault_line;
+pub use faults::{fault_line, write_pieces};
 pub use logs::log_lines;
 pub use reports::report_lines;
 pub use steps::step_lines;

@@ -1,6 +1,7 @@
 use bytecode::decode;
+use crate::alone::run_alone;
 use cal_base::{Cause, MemSink, RunEnd, StepFault};
-use calypso_engine::{RunError, RunReport, run};
+use calypso_engine::{RunError, RunReport};
 use code_verify::{Verified, verify};
 use std::alloc::Global;
 use std::test::*;
@@ -184,7 +185,7 @@ fn runs_modules_by_the_caller_alone(rt: HostRuntime) -> Result<(), Fail> {
     for (spelling, fuel, text, ended, claims) in ROWS {
         let code = module_of(alloc, *spelling)?;
         let mut out = MemSink::make(alloc, 3, 1000, Vec::new(alloc))?;
-        let report = run(alloc, &code, *fuel, &mut out).ok().ok_or("a run")?;
+        let report = run_alone(&rt, alloc, &code, *fuel, 64, &mut out).ok().ok_or("a run")?;
         assert_eq!(rt; out.bytes(), text.as_bytes(), "{spelling}");
         assert_eq!(rt; report.ended, *ended, "{spelling}");
         assert_eq!(rt; claims_of(&report)?, *claims, "{spelling}");
@@ -201,7 +202,7 @@ fn gives_up_where_the_sink_fails(rt: HostRuntime) -> Result<(), Fail> {
         let mut fail = Vec::new(alloc);
         fail.push(*call)?;
         let mut out = MemSink::make(alloc, 1, 1000, fail)?;
-        let result = run(alloc, &code, 1, &mut out);
+        let result = run_alone(&rt, alloc, &code, 1, 64, &mut out);
         assert!(rt; matches!(result, Err(RunError::OutFailed)), "call {call}");
         assert_eq!(rt; out.bytes(), front.as_bytes(), "call {call}");
     }

@@ -3,6 +3,8 @@
 #![tactic(auto)]
 
 #[cfg(test)]
+mod alone;
+#[cfg(test)]
 mod engine;
 #[cfg(test)]
 mod images;
@@ -17,6 +19,10 @@ mod pages;
 #[cfg(test)]
 mod rules;
 #[cfg(test)]
+mod scripts;
+#[cfg(test)]
 mod shared;
 #[cfg(test)]
 mod steps;
+#[cfg(test)]
+mod worker_pages;

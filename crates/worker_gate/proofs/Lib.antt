@@ -1,2 +1,5 @@
 pub mod Numbers
 pub mod Turns
+pub mod Later
+pub mod Counting
+pub mod Joining

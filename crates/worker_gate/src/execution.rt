@@ -6,7 +6,7 @@ ghost use Rattle.cal_base.specs.Claims.{size_of};
 ghost use Rattle.worker_gate.specs.Working.{MayWork};
 ghost use Rattle.worker_gate.specs.Lending.{LendsBuffer};
 
-use crate::buffer::BufferView;
+use crate::executor::BufferView;
 use crate::job::Job;
 use crate::worker::Worker;
 use cal_base::JobName;
@@ -19,9 +19,9 @@ pub fn execute<'w, N: JobName>(
     k: u32,
 ) -> Finished<N, BufferView<'w>>
     requires number { k < size_of N.job }
-    requires may { MayWork worker.old job.now.image.now.memory job.now.code.now }
+    requires may { MayWork worker.old job.now.image.now job.now.code.now }
     ensures k { result.k ≡ k }
-    ensures* kept { sem 𝓛 (LendsBuffer worker.entry) }
+    ensures* kept { sem 𝓛 (LendsBuffer worker.entry job.now.image.now job.now.code.now) }
 {
     let ended = worker.run(job, k);
     Finished::of(k, ended, worker.view())

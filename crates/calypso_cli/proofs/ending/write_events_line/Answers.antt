@@ -1,7 +1,7 @@
 use Rattle.std.proofs.Common.{◌∙◌, subst}
 use Rattle.std.specs.Io.KnownBytes.{Appends}
 use Rattle.cal_base.specs.Contents.{AppendsPrefix}
-use Rattle.calypso_cli.proofs.Fronts.{on_ok, on_err}
+use Rattle.run_report.proofs.Fronts.{on_ok, on_err}
 use Rattle.calypso_cli.proofs.FaultLines.{events_line}
 use Rattle.calypso_cli.proofs.ending.write_events_line.Goals as goal
 

@@ -2,7 +2,7 @@ use Rattle.std.proofs.Common.{◌∙◌, subst}
 use Rattle.std.specs.Io.KnownBytes.{Appends}
 use Rattle.cal_base.specs.Contents.{AppendsPrefix}
 use Rattle.csl_reader.specs.Words.{words_of}
-use Rattle.calypso_cli.proofs.Fronts.{on_ok, on_err}
+use Rattle.run_report.proofs.Fronts.{on_ok, on_err}
 use Rattle.calypso_cli.proofs.FaultLines.{refusal_line}
 use Rattle.calypso_cli.proofs.ending.write_refusal.Goals as goal
 

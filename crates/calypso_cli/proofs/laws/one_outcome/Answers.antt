@@ -9,10 +9,12 @@ use Rattle.machine_meaning.specs.Meaning.{machine_meaning}
 use Rattle.command_words.specs.Commands.{Flags, check, eval, run, sim, build, exec, gen, selfrun}
 use Rattle.csl_grammar.specs.Texts.{text_limit}
 use Rattle.calypso_cli.specs.Outcomes.{Sight, Outcome, Work, Does, Creates}
-use Rattle.calypso_cli.specs.Commands.{IsRefusedText, IsModule, IsNoModule, module_limit, WithScript, run_of, check_of, build_of, usual_fuel}
+use Rattle.calypso_cli.specs.Commands.{IsRefusedText, IsModule, IsNoModule, module_limit, IsScript, IsNoScript, script_limit, WithScript, run_of, check_of, build_of, gen_of, usual_fuel}
 use Rattle.calypso_cli.specs.Laws.{ComesToOne}
+use Rattle.program_gen.specs.Generated.{generated}
 use Rattle.calypso_cli.proofs.Only.{one_load, one_create}
-use Rattle.calypso_cli.proofs.Readings.{programs_once, modules_once}
+use Rattle.calypso_cli.proofs.Texts.{one_text}
+use Rattle.calypso_cli.proofs.Readings.{programs_once, modules_once, scripts_once}
 use Rattle.calypso_cli.proofs.laws.one_outcome.Goals as goal
 
 -- work comes to one outcome
@@ -23,7 +25,9 @@ one_work work a b h k = h ∙ sym k
 one_run : (sight : Sight) (flags : Flags) (means : Meaning) (script : Option (List ℕ)) (a b : Outcome)
     → WithScript sight script (Creates flags.log (Does (run_of flags.steps means))) a → WithScript sight script (Creates flags.log (Does (run_of flags.steps means))) b → a ≡ b
 one_run sight flags means None a b h k = one_create flags.log (Does (run_of flags.steps means)) (one_work (run_of flags.steps means)) a b h k
-one_run sight flags means (Some name) a b h k = absurd h
+one_run sight flags means (Some name) a b h k =
+    one_load name script_limit IsScript IsNoScript (λ rows. Creates flags.log (Does (run_of flags.steps means))) scripts_once
+    (λ rows. one_create flags.log (Does (run_of flags.steps means)) (one_work (run_of flags.steps means))) h k
 
 comes_to_one : OneModulePerBytes → ComesToOne
 comes_to_one one_module (check file) sight one two h k =
@@ -42,8 +46,8 @@ comes_to_one one_module (build file into) sight one two h k =
 comes_to_one one_module (exec file flags) sight one two h k =
     one_load file module_limit IsModule IsNoModule (λ m. WithScript sight flags.script (Creates flags.log (Does (run_of flags.steps (machine_meaning m flags.fuel))))) (modules_once one_module)
     (λ m a b. one_run sight flags (machine_meaning m flags.fuel) flags.script a b) h k
-comes_to_one one_module (gen number size) sight one two h k = absurd h
-comes_to_one one_module (selfrun number size) sight one two h k = absurd h
+comes_to_one one_module (gen number size) sight one two h k = one_work (gen_of number size) one two h k
+comes_to_one one_module (selfrun number size) sight one two h k = one_text (generated number size) (λ p. run_of false (meaning p usual_fuel)) h k
 
 pub returns : goal.returns
 returns c = comes_to_one c.one_module.ensures

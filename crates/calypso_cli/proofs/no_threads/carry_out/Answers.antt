@@ -14,3 +14,10 @@ returns-in-Build-clause-works g c =
     (objects_of (g.F.Files.holds c.args.files.now) (g.S.Sink.written c.args.out.now) (g.F.Files.faults c.args.files.now) (g.S.Sink.faults c.args.out.now))
     (objects_of (g.F.Files.holds c.build_file.new.files) (g.S.Sink.written c.args.out.now) (g.F.Files.faults c.build_file.new.files) (g.S.Sink.faults c.args.out.now))
     (ending_seen c.build_file.result) []) same (c.build_file.ensures.works (g.S.Sink.written c.args.out.now) (g.S.Sink.faults c.args.out.now))
+
+pub returns-in-Gen-clause-works : goal.returns-in-Gen-clause-works
+returns-in-Gen-clause-works g c =
+    subst (λ k. Works k
+    (objects_of (g.F.Files.holds c.args.files.now) (g.S.Sink.written c.args.out.now) (g.F.Files.faults c.args.files.now) (g.S.Sink.faults c.args.out.now))
+    (objects_of (g.F.Files.holds c.args.files.now) (g.S.Sink.written c.write_generated.new.out) (g.F.Files.faults c.args.files.now) (g.S.Sink.faults c.write_generated.new.out))
+    (ending_seen c.write_generated.result) []) (sym (ap command_seen c.in-Gen.is)) (c.write_generated.ensures.works (g.F.Files.holds c.args.files.now) (g.F.Files.faults c.args.files.now))

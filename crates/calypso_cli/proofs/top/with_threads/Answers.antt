@@ -1,8 +1,8 @@
 use Rattle.std.proofs.Common.{sym, Some}
 use Rattle.command_words.specs.Seen.{command_seen}
 use Rattle.calypso_cli.specs.Served.{served}
-use Rattle.calypso_cli.specs.Seen.{ending_seen}
-use Rattle.calypso_cli.proofs.Promises.{not_given, promise_of_none, promise_of_served, counts_stay}
+use Rattle.calypso_cli.specs.Seen.{ending_seen, report_seen}
+use Rattle.calypso_cli.proofs.Promises.{not_given, promise_of_none, promise_of_run, counts_stay}
 use Rattle.calypso_cli.proofs.top.with_threads.Goals as goal
 
 pub returns-then-not-is_served : goal.returns-then-not-is_served
@@ -12,6 +12,6 @@ returns-then-not-is_served g c =
 
 pub returns : goal.returns
 returns g c =
-    promise_of_served _ _ _ (command_seen c.args.command.now) (ending_seen c.carry_out-ending.result) (sym c.if-not-is_served.ensures)
-    c.carry_out-ending.ensures.works c.conclude-2.ensures.line c.conclude-2.ensures.status
-    (counts_stay _ _ c.carry_out-ending.ensures.files_later c.carry_out-ending.ensures.out_later c.conclude-2.ensures.later)
+    promise_of_run _ _ _ (command_seen c.args.command.now) (ending_seen c.carry_out-ended.result.ending) (report_seen c.carry_out-ended.result.report) (sym c.if-not-is_served.ensures)
+    c.carry_out-ended.ensures.works c.conclude_run.ensures.line c.conclude_run.ensures.status
+    (counts_stay _ _ c.carry_out-ended.ensures.files_later c.carry_out-ended.ensures.out_later c.conclude_run.ensures.later)

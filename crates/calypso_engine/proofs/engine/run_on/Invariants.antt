@@ -1,15 +1,22 @@
-use Rattle.std.proofs.Common.{◌≤◌, [], false}
+use Rattle.std.proofs.Common.{◌≤◌, [], IfSome}
+use Rattle.cal_base.specs.Contents.{StaysTrue}
 use Rattle.machine_meaning.specs.Runs.{most_steps}
 use Rattle.routine_vm.specs.Held.{main_state}
-use Rattle.calypso_engine.specs.Running.{IsReady, WentOn}
+use Rattle.calypso_engine.specs.Asked.{outside_of}
+use Rattle.calypso_engine.specs.Running.{rest_of, IsReady, WentOn}
 use Rattle.calypso_engine.proofs.engine.run_on.Given as goal
 
 -- main may go on, and went on since the beginning
 abbrev pub invariant-events : goal.invariant-events
 invariant-events g l = record {
-  ready : IsReady l.code l.fuel l.standing l.worker;
-  went : WentOn l.code l.fuel false l.initial.standing l.standing l.initial.worker.tally l.worker.tally (g.S.Sink.written l.initial.out) (g.S.Sink.written l.out);
-  later : g.S.Sink.faults l.initial.out ≤ g.S.Sink.faults l.out;
+  ready : IsReady l.code l.options l.standing l.team;
+  made : IfSome l.options.log (λ name. g.F.Files.created l.files name.now);
+  went :
+      WentOn l.code l.options (rest_of l.code l.options.fuel l.initial.standing) l.standing l.initial.team l.team
+      (outside_of (g.S.Sink.written l.initial.out) (g.F.Files.holds l.initial.files)) (outside_of (g.S.Sink.written l.out) (g.F.Files.holds l.files));
+  created : StaysTrue (g.F.Files.created l.initial.files) (g.F.Files.created l.files);
+  files_later : g.F.Files.faults l.initial.files ≤ g.F.Files.faults l.files;
+  out_later : g.S.Sink.faults l.initial.out ≤ g.S.Sink.faults l.out;
 }
 
 abbrev pub decreases-events : goal.decreases-events

@@ -1,25 +1,10 @@
-use Rattle.std.proofs.Common.{ap, arith}
-use Rattle.cal_base.specs.Pages.{Paged}
-use Rattle.worker_gate.proofs.Numbers.{number_there, block_there, routine_answers}
+use Rattle.std.proofs.Common.{ap, ◌∙◌, sym, subst}
+use Rattle.shared_pages.specs.Cached.{Fits}
+use Rattle.worker_gate.specs.Working.{WorkerState}
 use Rattle.worker_gate.proofs.worker.Worker.run.Goals as goal
 
-pub place_of-place-requires-clause-there : goal.place_of-place-requires-clause-there
-place_of-place-requires-clause-there g c =
-    let job = c.args.job.now in
-    number_there g.N.JobName.job job.code.now job.fuel job.step job.image.now.memory job.first_block job.widths.now c.args.k job.named job.there c.requires.number
-
-pub overflow_add-job : goal.overflow_add-job
-overflow_add-job g c =
-    let job = c.args.job.now in
-    omega (arith, block_there job.code.now job.first_block job.widths.now c.args.k c.place_of-place.result job.there c.place_of-place.ensures, c.module-code.ensures.verified.spelled.blocks.0)
-
-pub run_routine-ended-requires-clause-block : goal.run_routine-ended-requires-clause-block
-run_routine-ended-requires-clause-block g c =
-    let job = c.args.job.now in
-    block_there job.code.now job.first_block job.widths.now c.args.k c.place_of-place.result job.there c.place_of-place.ensures
-
-pub returns-clause-answer : goal.returns-clause-answer
-returns-clause-answer g c =
-    let job = c.args.job.now in
-    routine_answers g.N.JobName.job job.code.now job.fuel job.step job.image.now.memory c.join-view.result.opening.now.memory job.first_block job.widths.now c.args.k c.place_of-place.result job.named job.there c.place_of-place.ensures
-    (ap (λ (p : Paged). p.memory) c.join-view.ensures.opening) c.run_routine-ended.result c.run_routine-ended.new.mem.buffer.written c.into_buffer.result.written c.run_routine-ended.ensures.outcome c.into_buffer.ensures.written
+pub run-requires-clause-may : goal.run-requires-clause-may
+run-requires-clause-may g c = record {
+  words = ap (λ (w : WorkerState). w.words) c.self.view_is ∙ c.requires.may.room;
+  fits = subst (λ (w : WorkerState). Fits w.kept.frames w.kept.pages c.args.job.now.image.now) (sym c.self.view_is) c.requires.may.fits;
+}

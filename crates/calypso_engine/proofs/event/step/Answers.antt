@@ -1,0 +1,115 @@
+use Rattle.std.proofs.Common.{◌≡◌, ◌+◌, ℕ, suc, List, Ok, Err, IfSome, refl, sym, ap, subst, ◌∙◌, arith}
+use Rattle.std.proofs.lemmas.Result.{err_from_is_err_and}
+use Rattle.std.specs.Io.KnownBytes.{Appends}
+use Rattle.cal_base.specs.Contents.{Told}
+use Rattle.cal_base.specs.Claims.{size_of, meant}
+use Rattle.cal_base.specs.Memory.{Memory}
+use Rattle.cal_base.specs.Main.{Main, step_event}
+use Rattle.cal_base.specs.Text.{event_text}
+use Rattle.step_core.specs.Calls.{IsEnd}
+use Rattle.engine_laws.specs.Steps.{step_job}
+use Rattle.machine_meaning.specs.Meaning.{main_of}
+use Rattle.routine_vm.specs.Held.{main_state}
+use Rattle.run_report.specs.Logs.{TracedStep, step_log}
+use Rattle.calypso_engine.specs.Asked.{log_of, Outside, outside_of}
+use Rattle.calypso_engine.specs.Logs.{Logs, LogsFront}
+use Rattle.calypso_engine.specs.Kept.{lines_behind, lines_of_end}
+use Rattle.calypso_engine.specs.Running.{job_here, opening_here}
+use Rattle.calypso_engine.specs.Steps.{WasClosed}
+use Rattle.calypso_engine.specs.declared.error.RunError.{RunError}
+use Rattle.calypso_engine.proofs.Events.{gave_nothing, closed_went, closed_came, closed_gave, rest_behind}
+use Rattle.calypso_engine.proofs.Kept.{kept_lines}
+use Rattle.calypso_engine.proofs.Logging.{log_holds}
+use Rattle.calypso_engine.proofs.Teams.{team_tallies}
+use Rattle.calypso_engine.proofs.event.step.Goals as goal
+
+pub returns-in_err-widths-clause-goes : goal.returns-in_err-widths-clause-goes
+returns-in_err-widths-clause-goes g c =
+    let s = c.args.standing.now in
+    let o = c.args.options.now in
+    let p = err_from_is_err_and c.from_residual.result c.from_residual.ensures.1 in
+    rw p.1
+    (gave_nothing o (opening_here c.args.code.now o.fuel c.args.first_block s) s.steps c.requires.may.numbered p.0 (outside_of (g.S.Sink.written c.args.out.now) (g.F.Files.holds c.args.files.now))
+    (log_holds c.args.files.now g.F.Files.holds g.F.Files.created g.met.F.Files.created_holds o.log c.requires.created))
+
+pub returns-in_err-closed-clause-goes : goal.returns-in_err-closed-clause-goes
+returns-in_err-closed-clause-goes g c =
+    let s = c.args.standing.now in
+    let o = c.args.options.now in
+    let p = err_from_is_err_and c.from_residual-in_err-closed.result c.from_residual-in_err-closed.ensures.1 in
+    rw p.1
+    (gave_nothing o (opening_here c.args.code.now o.fuel c.args.first_block s) s.steps c.requires.may.numbered p.0 (outside_of (g.S.Sink.written c.args.out.now) (g.F.Files.holds c.args.files.now))
+    (log_holds c.args.files.now g.F.Files.holds g.F.Files.created g.met.F.Files.created_holds o.log c.requires.created))
+
+pub returns-in_err-tell_step-clause-goes : goal.returns-in_err-tell_step-clause-goes
+returns-in_err-tell_step-clause-goes g c =
+    let s = c.args.standing.now in
+    let o = c.args.options.now in
+    let job = job_here c.args.code.now o.fuel c.args.first_block s in
+    let p = err_from_is_err_and c.from_residual-in_err-tell_step.result c.from_residual-in_err-tell_step.ensures.1 in
+    let was : Outside = outside_of (g.S.Sink.written c.args.out.now) (g.F.Files.holds c.args.files.now) in
+    let now : Outside = outside_of (g.S.Sink.written c.tell_step.new.out) (g.F.Files.holds c.tell_step.new.files) in
+    let closed : WasClosed job c.args.total c.args.team.now c.open_step.new.team c.open_step.new.image.memory c.in_ok-closed.closed =
+    subst
+    (λ (widths : List ℕ). WasClosed (step_job c.args.code.now o.fuel (s.steps + 1) s.image.memory c.args.first_block widths) c.args.total c.args.team.now c.open_step.new.team c.open_step.new.image.memory c.in_ok-closed.closed)
+    (c.as_slice.ensures.value ∙ c.in_ok-widths.ensures) c.in_ok-closed.ensures.closed
+    in
+    rw p.1
+    (closed_gave o job (λ later. main_of c.args.code.now o.fuel (s.steps + 1) (main_state c.args.code.now s.machine later)) c.in_ok-closed.closed.history.items closed.whole was now
+    s.steps c.requires.may.numbered c.in_ok-closed.closed.result c.open_step.new.image.memory c.keep_words.new.kept closed.left
+    (kept_lines o.steps s.image.memory c.open_step.new.image.memory s.kept c.keep_words.new.kept (s.steps + 1) (size_of job) c.requires.may.room c.keep_words.ensures)
+    p.0 (λ none. c.in_err-tell_step.ensures.no_memory (ap (λ (e : RunError). Err e) (sym p.2 ∙ none))) c.in_err-tell_step.ensures.out_front
+    (subst (λ (n : ℕ). Told was.files now.files (LogsFront (log_of o) (step_log (record { number = s.steps + 1; size = n; history = c.in_ok-closed.closed.history.items })))) closed.size c.in_err-tell_step.ensures.log_front))
+
+pub returns-in-Ok-clause-goes : goal.returns-in-Ok-clause-goes
+returns-in-Ok-clause-goes g c =
+    let s = c.args.standing.now in
+    let o = c.args.options.now in
+    let job = job_here c.args.code.now o.fuel c.args.first_block s in
+    let later = c.open_step.new.image.memory in
+    let was : Outside = outside_of (g.S.Sink.written c.args.out.now) (g.F.Files.holds c.args.files.now) in
+    let now : Outside = outside_of (g.S.Sink.written c.tell_step.new.out) (g.F.Files.holds c.tell_step.new.files) in
+    let closed : WasClosed job c.args.total c.args.team.now c.open_step.new.team later c.in_ok-closed.closed =
+    subst
+    (λ (widths : List ℕ). WasClosed (step_job c.args.code.now o.fuel (s.steps + 1) s.image.memory c.args.first_block widths) c.args.total c.args.team.now c.open_step.new.team later c.in_ok-closed.closed)
+    (c.as_slice.ensures.value ∙ c.in_ok-widths.ensures) c.in_ok-closed.ensures.closed
+    in
+    let is : c.in_ok-closed.closed.result ≡ Ok tt = c.in-Ok.is in
+    let lines : lines_behind c.keep_words.new.kept (s.steps + 1) later ≡ event_text o.steps (step_event job later) =
+    kept_lines o.steps s.image.memory later s.kept c.keep_words.new.kept (s.steps + 1) (size_of job) c.requires.may.room c.keep_words.ensures
+    in
+    closed_went o job (λ later. main_of c.args.code.now o.fuel (s.steps + 1) (main_state c.args.code.now s.machine later)) c.in_ok-closed.closed.history.items closed.whole was now
+    c.args.code.now (record { machine = s.machine; image = c.open_step.new.image; kept = c.keep_words.new.kept; steps = s.steps + 1 }) later c.args.team.now c.open_step.new.team refl
+    (subst (λ r. IsEnd (meant job) later r) is closed.left)
+    (subst (Appends was.out now.out) (ap (λ r. lines_of_end r c.keep_words.new.kept (s.steps + 1) later) is ∙ lines) c.in_ok-tell_step.ensures.out)
+    (subst (λ (n : ℕ). Told was.files now.files (Logs (log_of o) (step_log (record { number = s.steps + 1; size = n; history = c.in_ok-closed.closed.history.items })))) closed.size c.in_ok-tell_step.ensures.log)
+    closed.counted
+
+pub returns-clause-goes : goal.returns-clause-goes
+returns-clause-goes g c =
+    let s = c.args.standing.now in
+    let o = c.args.options.now in
+    let job = job_here c.args.code.now o.fuel c.args.first_block s in
+    let later = c.open_step.new.image.memory in
+    let was : Outside = outside_of (g.S.Sink.written c.args.out.now) (g.F.Files.holds c.args.files.now) in
+    let now : Outside = outside_of (g.S.Sink.written c.tell_step.new.out) (g.F.Files.holds c.tell_step.new.files) in
+    let closed : WasClosed job c.args.total c.args.team.now c.open_step.new.team later c.in_ok-closed.closed =
+    subst
+    (λ (widths : List ℕ). WasClosed (step_job c.args.code.now o.fuel (s.steps + 1) s.image.memory c.args.first_block widths) c.args.total c.args.team.now c.open_step.new.team later c.in_ok-closed.closed)
+    (c.as_slice.ensures.value ∙ c.in_ok-widths.ensures) c.in_ok-closed.ensures.closed
+    in
+    let is : c.in_ok-closed.closed.result ≡ Err c.in-Err.fault = c.in-Err.is in
+    closed_came o job (λ later. main_of c.args.code.now o.fuel (s.steps + 1) (main_state c.args.code.now s.machine later)) c.in_ok-closed.closed.history.items closed.whole was now
+    c.in-Err.fault c.args.team.now c.open_step.new.team
+    (subst (λ r. IsEnd (meant job) later r) is closed.left)
+    (subst (Appends was.out now.out) (ap (λ r. lines_of_end r c.keep_words.new.kept (s.steps + 1) later) is) c.in_ok-tell_step.ensures.out)
+    (subst (λ (n : ℕ). Told was.files now.files (Logs (log_of o) (step_log (record { number = s.steps + 1; size = n; history = c.in_ok-closed.closed.history.items })))) closed.size c.in_ok-tell_step.ensures.log)
+    closed.counted
+
+pub returns-in-Ok-clause-tallies : goal.returns-in-Ok-clause-tallies
+returns-in-Ok-clause-tallies g c =
+    team_tallies c.args.options.now.script.now c.args.options.now.workers (c.args.standing.now.steps + 1) c.open_step.new.image c.args.code.now c.open_step.new.team c.in_ok-closed.ensures.team
+
+pub returns-clause-tallies : goal.returns-clause-tallies
+returns-clause-tallies g c =
+    team_tallies c.args.options.now.script.now c.args.options.now.workers (c.args.standing.now.steps + 1) c.open_step.new.image c.args.code.now c.open_step.new.team c.in_ok-closed.ensures.team

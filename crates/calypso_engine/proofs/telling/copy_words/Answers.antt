@@ -1,0 +1,23 @@
+use Rattle.std.proofs.Common.{◌+◌, ◌<◌, ℕ, ℤ, SFits, length, sym, ap, subst, ◌∙◌, arith, rules, w64}
+use Rattle.std.proofs.lemmas.Int.{to_z-of_z}
+use Rattle.cal_base.specs.Memory.{Memory, kinds_of, with_value}
+use Rattle.cal_base.proofs.Images.{kinds-with_value}
+use Rattle.calypso_engine.proofs.Kept.{as_long, same_memory, IsCopied, copied_more}
+use Rattle.calypso_engine.proofs.telling.copy_words.Goals as goal
+
+pub loop-a-preserved : goal.loop-a-preserved
+loop-a-preserved c =
+    let to = c.loop-a.to.memory in
+    let from = c.args.from.now.memory in
+    let fits : SFits w64 c.word.result = search rules in
+    let is = c.set.ensures.memory ∙ ap (λ (v : ℤ). with_value to c.loop-a.a v) (to_z-of_z w64 c.word.result fits ∙ c.word.ensures) in
+    let within : c.loop-a.a < length to = omega (arith, c.loop-a-test.true, c.len-a-end.ensures.words, as_long to from c.loop-a.invariant.kinds) in
+    record {
+      kinds = ap kinds_of c.set.ensures.memory ∙ kinds-with_value to c.loop-a.a _ ∙ c.loop-a.invariant.kinds;
+      copied = subst (λ (memory : Memory). IsCopied (c.loop-a.a + 1) memory from) (sym is) (copied_more to from c.loop-a.a within c.loop-a.invariant.copied);
+    }
+
+pub returns : goal.returns
+returns c =
+    same_memory c.loop-a.to.memory c.args.from.now.memory c.loop-a.invariant.kinds
+    (λ i h. c.loop-a.invariant.copied i (omega (arith, h, c.loop-a-test.false, c.len-a-end.ensures.words)))
