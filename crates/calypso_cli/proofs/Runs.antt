@@ -192,10 +192,10 @@ run_there file flags rows told p holds scripts =
     (λ sight is trace report traced h. is_report flags sight (HasTrace (run file flags) sight) rows trace report (holds_script told rows sight is flags.script scripts) (has_trace sight is trace traced) h)
     (λ trace report h. may_report_of flags.report flags.workers rows trace report h)
     tt (run_can_end (run file flags) tt (meaning p flags.fuel).ending) (run_worked (meaning p flags.fuel).ending) where
-  has_trace : (sight : Sight) → told ≡ Some sight.files → (trace : Trace) → IsTraceOf (steps_of (main p flags.fuel)) trace → HasTrace (run file flags) sight trace
-  has_trace sight is trace traced =
-      let h = held told sight.files file (ReadsAs (reading.accepted p)) is holds in
-      (p, (h.0, h.1, h.2.0, h.2.1), traced)
+      has_trace : (sight : Sight) → told ≡ Some sight.files → (trace : Trace) → IsTraceOf (steps_of (main p flags.fuel)) trace → HasTrace (run file flags) sight trace
+      has_trace sight is trace traced =
+          let h = held told sight.files file (ReadsAs (reading.accepted p)) is holds in
+          (p, (h.0, h.1, h.2.0, h.2.1), traced)
 
 -- ---- `exec`
 
@@ -219,7 +219,7 @@ exec_there file flags rows told m holds scripts =
     (λ sight is trace report traced h. is_report flags sight (HasTrace (exec file flags) sight) rows trace report (holds_script told rows sight is flags.script scripts) (has_trace sight is trace traced) h)
     (λ trace report h. may_report_of flags.report flags.workers rows trace report h)
     tt (run_can_end (exec file flags) tt (machine_meaning m flags.fuel).ending) (run_worked (machine_meaning m flags.fuel).ending) where
-  has_trace : (sight : Sight) → told ≡ Some sight.files → (trace : Trace) → IsTraceOf (steps_of (machine_main m flags.fuel)) trace → HasTrace (exec file flags) sight trace
-  has_trace sight is trace traced =
-      let h = held told sight.files file (Spells m) is holds in
-      (m, (h.0, h.1, h.2.0, h.2.1), traced)
+      has_trace : (sight : Sight) → told ≡ Some sight.files → (trace : Trace) → IsTraceOf (steps_of (machine_main m flags.fuel)) trace → HasTrace (exec file flags) sight trace
+      has_trace sight is trace traced =
+          let h = held told sight.files file (Spells m) is holds in
+          (m, (h.0, h.1, h.2.0, h.2.1), traced)

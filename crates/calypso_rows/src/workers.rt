@@ -11,18 +11,22 @@ use std::test::Fail;
 use std::thread;
 use std::thread::Threads;
 
-const SQUARES: &[u8] = b"shared { int a[4]; int s; } main { parbegin routine[4](int w, int id) { a[id] = id * id; } parend; \
+const SQUARES: &[u8] =
+    b"shared { int a[4]; int s; } main { parbegin routine[4](int w, int id) { a[id] = id * id; } parend; \
 for (int i = 0; i < 4; i += 1) { s += a[i]; } print(\"sum\", s); }";
 
-const SWAP: &[u8] = b"shared { int a[2] = {1, 2}; } main { parbegin routine[2](int w, int id) { a[id] = a[1 - id]; } parend; \
+const SWAP: &[u8] =
+    b"shared { int a[2] = {1, 2}; } main { parbegin routine[2](int w, int id) { a[id] = a[1 - id]; } parend; \
 print(a[0], a[1]); }";
 
-const TALLY: &[u8] = b"shared { tally int t; } main { parbegin routine[8](int w, int id) { t += id; } parend; print(t); }";
+const TALLY: &[u8] =
+    b"shared { tally int t; } main { parbegin routine[8](int w, int id) { t += id; } parend; print(t); }";
 
 const COUNTER: &[u8] = b"shared { int x; } main { for (int i = 0; i < 2; i += 1) \
 { parbegin routine[1](int w, int id) { x = x + 1; } parend; } print(x); }";
 
-const FAR: &[u8] = b"shared { int a[262144]; } main { for (int i = 0; i < 100; i += 1) { parbegin routine[2](int w, int id) \
+const FAR: &[u8] =
+    b"shared { int a[262144]; } main { for (int i = 0; i < 100; i += 1) { parbegin routine[2](int w, int id) \
 { a[id * 262143] = a[id * 262143] + a[131072] + 1; } parend; } print(a[0], a[262143]); }";
 
 const PRODUCT: &[u8] = b"shared { int a[64]; int b[64]; int c[64]; } \
@@ -90,10 +94,34 @@ fn run_words<R: Threads + Wait + Sync, G: Gate>(
 #[test]
 fn options_of_a_run(rt: HostRuntime) -> Result<(), Fail> {
     let rows: &[Row] = &[
-        (&["run", "p.csl", "--workers", "0"], SQUARES, b"", 0, b"sum 14\n", b"", None),
-        (&["run", "p.csl", "--workers", "1"], SQUARES, b"", 0, b"sum 14\n", b"", None),
+        (
+            &["run", "p.csl", "--workers", "0"],
+            SQUARES,
+            b"",
+            0,
+            b"sum 14\n",
+            b"",
+            None,
+        ),
+        (
+            &["run", "p.csl", "--workers", "1"],
+            SQUARES,
+            b"",
+            0,
+            b"sum 14\n",
+            b"",
+            None,
+        ),
         (&["run", "p.csl"], SQUARES, b"", 0, b"sum 14\n", b"", None),
-        (&["run", "p.csl", "--workers", "32"], SQUARES, b"", 0, b"sum 14\n", b"", None),
+        (
+            &["run", "p.csl", "--workers", "32"],
+            SQUARES,
+            b"",
+            0,
+            b"sum 14\n",
+            b"",
+            None,
+        ),
         (
             &["run", "p.csl", "--steps"],
             SQUARES,
@@ -125,7 +153,15 @@ claim caller 2\narrive caller 1 2 first\nclaim caller 3\narrive caller 1 3 first
             None,
         ),
         (
-            &["run", "p.csl", "--workers", "1", "--report", "--script", "s"],
+            &[
+                "run",
+                "p.csl",
+                "--workers",
+                "1",
+                "--report",
+                "--script",
+                "s",
+            ],
             TALLY,
             b"[[worker]]\nnumber = 0\nrepeat = [1, 2, 3, 4, 5, 6, 7, 8]\n",
             0,
@@ -134,7 +170,16 @@ claim caller 2\narrive caller 1 2 first\nclaim caller 3\narrive caller 1 3 first
             None,
         ),
         (
-            &["run", "p.csl", "--workers", "1", "--script", "s", "--log", "l"],
+            &[
+                "run",
+                "p.csl",
+                "--workers",
+                "1",
+                "--script",
+                "s",
+                "--log",
+                "l",
+            ],
             COUNTER,
             b"[[worker]]\nnumber = 0\nhold = [1]\n",
             0,
@@ -144,8 +189,24 @@ claim caller 2\narrive caller 1 2 first\nclaim caller 3\narrive caller 1 3 first
                 b"step 1 of 1\nclaim 0 0\nclaim 0 0\narrive 0 1 0 first\nstep 2 of 1\narrive 0 1 0 stale\nclaim 0 0\narrive 0 2 0 first\n",
             ),
         ),
-        (&["run", "p.csl", "--frames", "2"], FAR, b"", 0, b"100 100\n", b"", None),
-        (&["run", "p.csl", "--fuel", "66"], PRODUCT, b"", 0, b"sum 896 last 28\n", b"", None),
+        (
+            &["run", "p.csl", "--frames", "2"],
+            FAR,
+            b"",
+            0,
+            b"100 100\n",
+            b"",
+            None,
+        ),
+        (
+            &["run", "p.csl", "--fuel", "66"],
+            PRODUCT,
+            b"",
+            0,
+            b"sum 896 last 28\n",
+            b"",
+            None,
+        ),
         (
             &["run", "p.csl", "--fuel", "65"],
             PRODUCT,
@@ -162,7 +223,9 @@ claim caller 2\narrive caller 1 2 first\nclaim caller 3\narrive caller 1 3 first
             5,
             b"",
             b"fault: step 1, routine 1: word 0 also written by routine 0\ncaller: claims 2 executed 2 pages 0\n",
-            Some(b"step 1 of 2\nclaim caller 0\narrive caller 1 0 first\nclaim caller 1\narrive caller 1 1 first\n"),
+            Some(
+                b"step 1 of 2\nclaim caller 0\narrive caller 1 0 first\nclaim caller 1\narrive caller 1 1 first\n",
+            ),
         ),
     ];
     for (words, text, script, status, out, err, log) in rows {
@@ -179,13 +242,23 @@ claim caller 2\narrive caller 1 2 first\nclaim caller 3\narrive caller 1 3 first
 fn workers_that_stop(rt: HostRuntime) -> Result<(), Fail> {
     let script = b"[[worker]]\nnumber = 0\nstop_at = 1\n[[worker]]\nnumber = 1\nstop_at = 1\n\
 [[worker]]\nnumber = 2\nstop_at = 1\n[[worker]]\nnumber = 3\nstop_at = 1\n";
-    let words = ["run", "p.csl", "--workers", "4", "--script", "s", "--log", "l"];
+    let words = [
+        "run",
+        "p.csl",
+        "--workers",
+        "4",
+        "--script",
+        "s",
+        "--log",
+        "l",
+    ];
     let ran = run_words(&rt, rt.alloc(), &words, (SQUARES, script), 0, &OpenGate)?;
     assert_eq!(rt; ran.called.out.bytes(), b"sum 14\n".as_slice());
     let log = ran.files.bytes("l").unwrap_or(b"");
-    let by_caller = b"claim caller 0\narrive caller 1 0 first\nclaim caller 1\narrive caller 1 1 first\n\
+    let by_caller =
+        b"claim caller 0\narrive caller 1 0 first\nclaim caller 1\narrive caller 1 1 first\n\
 claim caller 2\narrive caller 1 2 first\nclaim caller 3\narrive caller 1 3 first\n"
-        .as_slice();
+            .as_slice();
     assert!(rt; log.starts_with(b"step 1 of 4\nclaim "));
     assert!(rt; log.ends_with(by_caller));
     assert_eq!(rt; log.len(), by_caller.len().saturating_add(12 + 4 * 10));
@@ -209,7 +282,14 @@ fn scripts_and_logs_that_fail(rt: HostRuntime) -> Result<(), Fail> {
         b"workers = 3\n",
     ];
     for script in scripts {
-        let ran = run_words(&rt, rt.alloc(), &["run", "p.csl", "--script", "s", "--log", "l"], (SQUARES, script), 0, &OpenGate)?;
+        let ran = run_words(
+            &rt,
+            rt.alloc(),
+            &["run", "p.csl", "--script", "s", "--log", "l"],
+            (SQUARES, script),
+            0,
+            &OpenGate,
+        )?;
         assert_eq!(rt; ran.called.err.bytes(), b"script refused\n".as_slice());
         assert_eq!(rt; ran.called.status, 8);
         assert_eq!(rt; ran.files.bytes("l"), None);
@@ -221,7 +301,14 @@ fn scripts_and_logs_that_fail(rt: HostRuntime) -> Result<(), Fail> {
         b"[[worker]]\nnumber = 3\nstop_at = 1_0\nrepeat = [+5]\n",
     ];
     for script in kept {
-        let ran = run_words(&rt, rt.alloc(), &["run", "p.csl", "--script", "s"], (SQUARES, script), 0, &OpenGate)?;
+        let ran = run_words(
+            &rt,
+            rt.alloc(),
+            &["run", "p.csl", "--script", "s"],
+            (SQUARES, script),
+            0,
+            &OpenGate,
+        )?;
         assert_eq!(rt; ran.called.out.bytes(), b"sum 14\n".as_slice());
         assert_eq!(rt; ran.called.status, 0);
     }
@@ -234,7 +321,14 @@ fn scripts_and_logs_that_fail(rt: HostRuntime) -> Result<(), Fail> {
     ];
     for (fail, name) in names.iter().enumerate() {
         let words = ["run", "p.csl", "--script", "s", "--log", "l"];
-        let ran = run_words(&rt, rt.alloc(), &words, (SQUARES, b""), (fail as u64).saturating_add(1), &OpenGate)?;
+        let ran = run_words(
+            &rt,
+            rt.alloc(),
+            &words,
+            (SQUARES, b""),
+            (fail as u64).saturating_add(1),
+            &OpenGate,
+        )?;
         assert_eq!(rt; ran.called.err.bytes(), *name);
         assert_eq!(rt; ran.called.out.bytes(), b"".as_slice());
         assert_eq!(rt; ran.called.status, 3);
@@ -250,11 +344,20 @@ fn generated_programs(rt: HostRuntime) -> Result<(), Fail> {
     let text = generated.called.out.bytes();
     assert!(rt; text.starts_with(b"shared {\nint a[256] = {7, 14, 21, "));
     let again = run_words(&rt, alloc, &["run", "p.csl"], (text, b""), 0, &OpenGate)?;
-    assert_eq!(rt; again.called.out.bytes(), b"sum 119312 total 119312 first 281\n".as_slice());
+    assert_eq!(rt;
+        again.called.out.bytes(),
+        b"sum 119312 total 119312 first 281\n".as_slice()
+    );
     assert_eq!(rt; again.called.status, 0);
     let runs: [([&str; 3], &[u8]); 2] = [
-        (["selfrun", "7", "1"], b"sum 119312 total 119312 first 281\n"),
-        (["selfrun", "7", "64"], b"sum 190992 total 9901056 first 406\n"),
+        (
+            ["selfrun", "7", "1"],
+            b"sum 119312 total 119312 first 281\n",
+        ),
+        (
+            ["selfrun", "7", "64"],
+            b"sum 190992 total 9901056 first 406\n",
+        ),
     ];
     for (words, out) in runs {
         let ran = run_words(&rt, alloc, &words, (b"", b""), 0, &OpenGate)?;
@@ -313,6 +416,67 @@ fn has(text: &[u8], part: &[u8]) -> bool {
 }
 
 #[test]
+fn all_workers_stop(rt: HostRuntime) -> Result<(), Fail> {
+    let alloc = rt.alloc();
+    let mut script = Vec::new(alloc);
+    for number in 0..32u64 {
+        add(&mut script, b"[[worker]]\nnumber = ", number)?;
+        script.extend_from_slice(b"\nstop_at = 2\n")?;
+    }
+    let words = [
+        "run",
+        "p.csl",
+        "--workers",
+        "32",
+        "--script",
+        "s",
+        "--report",
+    ];
+    let ran = run_words(
+        &rt,
+        alloc,
+        &words,
+        (PRODUCT, script.as_slice()),
+        0,
+        &OpenGate,
+    )?;
+    assert_eq!(rt; ran.called.out.bytes(), b"sum 896 last 28\n".as_slice());
+    assert_eq!(rt; ran.called.status, 0);
+    for number in 0..32u64 {
+        let mut line = Vec::new(alloc);
+        add(&mut line, b"worker ", number)?;
+        line.extend_from_slice(
+            b": claims 2 executed 1 lost 0 repeated 0 held 0 stopped yes pages 0\n",
+        )?;
+        assert!(rt; has(ran.called.err.bytes(), line.as_slice()));
+    }
+    Ok(())
+}
+
+#[test]
+fn the_longest_lists_of_a_script(rt: HostRuntime) -> Result<(), Fail> {
+    let alloc = rt.alloc();
+    for (count, status) in [(1024u64, 0u8), (1025, 8)] {
+        let mut script = Vec::from_slice(alloc, b"[[worker]]\nnumber = 0\nlose = [1")?;
+        for number in 2..count + 1 {
+            add(&mut script, b", ", number)?;
+        }
+        script.extend_from_slice(b"]\n")?;
+        let words = ["run", "p.csl", "--script", "s"];
+        let ran = run_words(
+            &rt,
+            alloc,
+            &words,
+            (SQUARES, script.as_slice()),
+            0,
+            &OpenGate,
+        )?;
+        assert_eq!(rt; ran.called.status, status);
+    }
+    Ok(())
+}
+
+#[test]
 fn gate_counts(rt: HostRuntime) -> Result<(), Fail> {
     let alloc = rt.alloc();
     let gate = Counting {
@@ -320,8 +484,19 @@ fn gate_counts(rt: HostRuntime) -> Result<(), Fail> {
         after: four(),
         arrived: four(),
     };
-    let script = b"[[worker]]\nnumber = 0\nrepeat = [1]\n[[worker]]\nnumber = 1\nlose = [1]\n[[worker]]\nnumber = 2\nhold = [1]\n";
-    let words = ["run", "p.csl", "--workers", "4", "--script", "s", "--log", "l", "--report"];
+    let script =
+        b"[[worker]]\nnumber = 0\nrepeat = [1]\n[[worker]]\nnumber = 1\nlose = [1]\n[[worker]]\nnumber = 2\nhold = [1]\n";
+    let words = [
+        "run",
+        "p.csl",
+        "--workers",
+        "4",
+        "--script",
+        "s",
+        "--log",
+        "l",
+        "--report",
+    ];
     let ran = run_words(&rt, alloc, &words, (PRODUCT, script), 0, &gate)?;
     assert_eq!(rt; ran.called.out.bytes(), b"sum 896 last 28\n".as_slice());
     assert_eq!(rt; ran.called.status, 0);
@@ -407,10 +582,21 @@ fn two_workers_meet(rt: HostRuntime) -> Result<(), Fail> {
 
 #[test]
 fn conflicts_end_alike(rt: HostRuntime) -> Result<(), Fail> {
-    let text = b"shared { int a[8]; } main { parbegin routine[64](int w, int id) { if (id > 5) { a[id % 8] = id; } a[7 - id % 3] = 1; } parend; }";
+    let text =
+        b"shared { int a[8]; } main { parbegin routine[64](int w, int id) { if (id > 5) { a[id % 8] = id; } a[7 - id % 3] = 1; } parend; }";
     for _ in 0..200u32 {
-        let ran = run_words(&rt, rt.alloc(), &["run", "p.csl"], (text, b""), 0, &OpenGate)?;
-        assert_eq!(rt; ran.called.err.bytes(), b"fault: step 1, routine 3: word 7 also written by routine 0\n".as_slice());
+        let ran = run_words(
+            &rt,
+            rt.alloc(),
+            &["run", "p.csl"],
+            (text, b""),
+            0,
+            &OpenGate,
+        )?;
+        assert_eq!(rt;
+            ran.called.err.bytes(),
+            b"fault: step 1, routine 3: word 7 also written by routine 0\n".as_slice()
+        );
         assert_eq!(rt; ran.called.status, 5);
     }
     Ok(())

@@ -17,7 +17,11 @@ pub fn run_alone<R: Threads + Wait + Sync, S: Sink>(
     frames: u32,
     out: &mut S,
 ) -> Result<RunReport, RunError> {
-    let frames = if 2 <= frames && frames <= 4096 { frames } else { 64 };
+    let frames = if 2 <= frames && frames <= 4096 {
+        frames
+    } else {
+        64
+    };
     let script = Script::none(alloc);
     let options = RunOptions {
         workers: 0,

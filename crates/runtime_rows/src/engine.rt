@@ -1,5 +1,5 @@
-use bytecode::decode;
 use crate::alone::run_alone;
+use bytecode::decode;
 use cal_base::{Cause, MemSink, RunEnd, StepFault};
 use calypso_engine::{RunError, RunReport};
 use code_verify::{Verified, verify};
@@ -185,7 +185,9 @@ fn runs_modules_by_the_caller_alone(rt: HostRuntime) -> Result<(), Fail> {
     for (spelling, fuel, text, ended, claims) in ROWS {
         let code = module_of(alloc, *spelling)?;
         let mut out = MemSink::make(alloc, 3, 1000, Vec::new(alloc))?;
-        let report = run_alone(&rt, alloc, &code, *fuel, 64, &mut out).ok().ok_or("a run")?;
+        let report = run_alone(&rt, alloc, &code, *fuel, 64, &mut out)
+            .ok()
+            .ok_or("a run")?;
         assert_eq!(rt; out.bytes(), text.as_bytes(), "{spelling}");
         assert_eq!(rt; report.ended, *ended, "{spelling}");
         assert_eq!(rt; claims_of(&report)?, *claims, "{spelling}");

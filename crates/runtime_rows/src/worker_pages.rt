@@ -12,7 +12,8 @@ use std::test::*;
 type Row = (&'static str, u32, u32, &'static str, u64, u64, u64);
 
 /// a[id * 262143] = a[id * 262143] + a[131072] + 1 for two routines in each of three steps, then print(a[0], a[262143])
-const FAR: &str = "43534c3180801000000000010201010e100100feff1f05100100feff1f0515008080100080801015008080100300020316008080101c01010f100000060c190b0004200001100000020311001a00120012ffff0f1f0201011c";
+const FAR: &str =
+    "43534c3180801000000000010201010e100100feff1f05100100feff1f0515008080100080801015008080100300020316008080101c01010f100000060c190b0004200001100000020311001a00120012ffff0f1f0201011c";
 
 const ROWS: &[Row] = &[
     // b[id] = a[id] for 64 routines in each of three steps: the page of a never changes
@@ -75,7 +76,10 @@ fn fetches_what_has_changed_alone(rt: HostRuntime) -> Result<(), Fail> {
         };
         assert_eq!(rt; caller.claims, *claims, "{spelling}");
         assert_eq!(rt; caller.executed, *claims, "{spelling}");
-        assert!(rt; *least <= caller.pages && caller.pages <= *most, "{spelling}");
+        assert!(rt;
+            *least <= caller.pages && caller.pages <= *most,
+            "{spelling}"
+        );
     }
     Ok(())
 }
