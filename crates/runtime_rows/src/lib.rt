@@ -1,5 +1,4 @@
-//! Worked rows of what lies below the commands: the outside, memory, modules and their rules, the machine. The tests stand here, since
-//! a crate that has tests is proved twice.
+//! Worked rows of scripts and of the engine. The tests stand here, since a crate that has tests is proved twice.
 #![tactic(auto)]
 
 #[cfg(test)]
@@ -7,22 +6,6 @@ mod alone;
 #[cfg(test)]
 mod engine;
 #[cfg(test)]
-mod images;
-#[cfg(test)]
-mod machine;
-#[cfg(test)]
-mod modules;
-#[cfg(test)]
-mod outside;
-#[cfg(test)]
-mod pages;
-#[cfg(test)]
-mod rules;
-#[cfg(test)]
 mod scripts;
-#[cfg(test)]
-mod shared;
-#[cfg(test)]
-mod steps;
 #[cfg(test)]
 mod worker_pages;

@@ -1,6 +1,0 @@
-use Rattle.std.proofs.Common.{◌≡◌}
-use Rattle.runtime_rows.proofs.machine.tell_block.Given as goal
-
--- main's state is kept
-abbrev pub invariant-loop-id : goal.invariant-loop-id
-invariant-loop-id l = l.machine ≡ l.fn.machine

@@ -1,7 +1,0 @@
-use Rattle.std.proofs.Common.{◌∙◌}
-use Rattle.runtime_rows.specs.Steps.{many}
-use Rattle.runtime_rows.proofs.ManyRoutines.{together_opening}
-use Rattle.runtime_rows.proofs.steps.all_add_to_one_word.Goals as goal
-
-pub close-closed-requires-clause-opening : goal.close-closed-requires-clause-opening
-close-closed-requires-clause-opening g c = c.in_ok-image.ensures.memory ∙ together_opening many
