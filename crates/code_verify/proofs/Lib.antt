@@ -4,4 +4,5 @@ pub mod Unique
 pub mod Complete
 pub mod Lists
 pub mod Using
+pub mod Sharing
 pub mod Verifying

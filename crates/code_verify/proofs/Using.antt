@@ -12,12 +12,12 @@ use Rattle.code_verify.specs.Rules.{Stands, ReadsOrSetsTally, UsesTally, UsesNoT
 use Rattle.code_verify.specs.Tests.{UsesBy, SomeUses, CallBackwards, TellsUses}
 use Rattle.code_verify.proofs.Walking.{not_past, some_is}
 
-get_before : {A : Type 0} (xs : List A) (x : A) (n : ℕ) → n < length xs → slice_get (xs ++ x ∷ []) n ≡ slice_get xs n
+pub get_before : {A : Type 0} (xs : List A) (x : A) (n : ℕ) → n < length xs → slice_get (xs ++ x ∷ []) n ≡ slice_get xs n
 get_before [] x n lt = absurd (omega arith)
 get_before (y ∷ xs) x zero lt = refl
 get_before (y ∷ xs) x (suc n) lt = let less : n < length xs = omega arith in get_before xs x n less
 
-get_last : {A : Type 0} (xs : List A) (x : A) → slice_get (xs ++ x ∷ []) (length xs) ≡ Some x
+pub get_last : {A : Type 0} (xs : List A) (x : A) → slice_get (xs ++ x ∷ []) (length xs) ≡ Some x
 get_last [] x = refl
 get_last (y ∷ xs) x = get_last xs x
 

@@ -14,19 +14,19 @@ use Rattle.code_verify.specs.Walk.{◌>>=◌, Changes, Table, same_kinds, agreed
 
 -- ---- places of a list
 
-set_same : {A : Type 0} (xs : List A) (n : ℕ) (x : A) → n < length xs → slice_get (slice_set xs n x) n ≡ Some x
+pub set_same : {A : Type 0} (xs : List A) (n : ℕ) (x : A) → n < length xs → slice_get (slice_set xs n x) n ≡ Some x
 set_same [] n x lt = absurd (omega arith)
 set_same (y ∷ xs) zero x lt = refl
 set_same (y ∷ xs) (suc n) x lt = let less : n < length xs = omega arith in set_same xs n x less
 
-set_other : {A : Type 0} (xs : List A) (n m : ℕ) (x : A) → m ≢ n → slice_get (slice_set xs n x) m ≡ slice_get xs m
+pub set_other : {A : Type 0} (xs : List A) (n m : ℕ) (x : A) → m ≢ n → slice_get (slice_set xs n x) m ≡ slice_get xs m
 set_other [] n m x ne = refl
 set_other (y ∷ xs) zero zero x ne = absurd (ne refl)
 set_other (y ∷ xs) zero (suc m) x ne = refl
 set_other (y ∷ xs) (suc n) zero x ne = refl
 set_other (y ∷ xs) (suc n) (suc m) x ne = set_other xs n m x (λ e. ne (ap suc e))
 
-set_long : {A : Type 0} (xs : List A) (n : ℕ) (x : A) → length (slice_set xs n x) ≡ length xs
+pub set_long : {A : Type 0} (xs : List A) (n : ℕ) (x : A) → length (slice_set xs n x) ≡ length xs
 set_long [] n x = refl
 set_long (y ∷ xs) zero x = refl
 set_long (y ∷ xs) (suc n) x = ap suc (set_long xs n x)
@@ -36,7 +36,7 @@ not_past [] n lt e = omega arith
 not_past (x ∷ xs) zero lt e = cc
 not_past (x ∷ xs) (suc n) lt e = let less : n < length xs = omega arith in not_past xs n less e
 
-either_place : (q to : ℕ) → (q ≡ to) ⊎ (q ≢ to)
+pub either_place : (q to : ℕ) → (q ≡ to) ⊎ (q ≢ to)
 either_place q to = tested (eqb q to) refl
   where
     tested : (b : Bool) → eqb q to ≡ b → (q ≡ to) ⊎ (q ≢ to)

@@ -11,7 +11,8 @@ use cal_terms::NoMemory;
 
 /// Takes this kind from the top, if it is there.
 fn take_kind(kinds: &mut Kinds, kind: Ty) -> bool
-    ensures { Changes result kinds.new (spec.below (kind ∷ []) kinds.old) }
+    ensures hand { Changes result kinds.new.hand (spec.below (kind ∷ []) kinds.old.hand) }
+    ensures known { kinds.new.known ≡ kinds.old.known }
 {
     match kinds.pop() {
         None => false,
@@ -22,7 +23,8 @@ fn take_kind(kinds: &mut Kinds, kind: Ty) -> bool
 
 /// Takes these kinds from the top, the first of them first, if they are there.
 fn take_all(kinds: &mut Kinds, wanted: &[Ty]) -> bool
-    ensures { Changes result kinds.new (spec.below wanted.now kinds.old) }
+    ensures hand { Changes result kinds.new.hand (spec.below wanted.now kinds.old.hand) }
+    ensures known { kinds.new.known ≡ kinds.old.known }
 {
     let mut rest = wanted;
     while let Some((kind, others)) = rest.split_first() {
@@ -36,7 +38,8 @@ fn take_all(kinds: &mut Kinds, wanted: &[Ty]) -> bool
 
 /// Takes the kinds of parameters from the top, the last of them first, if they are there.
 fn take_parameters(kinds: &mut Kinds, wanted: &[Ty]) -> bool
-    ensures { Changes result kinds.new (spec.below (reverse wanted.now) kinds.old) }
+    ensures hand { Changes result kinds.new.hand (spec.below (reverse wanted.now) kinds.old.hand) }
+    ensures known { kinds.new.known ≡ kinds.old.known }
 {
     let mut rest = wanted;
     while let Some((kind, others)) = rest.split_last() {
@@ -50,7 +53,8 @@ fn take_parameters(kinds: &mut Kinds, wanted: &[Ty]) -> bool
 
 /// Takes the kind of a printed item from the top, if it has one and it is there.
 fn take_item(kinds: &mut Kinds, item: PrintItem) -> bool
-    ensures { Changes result kinds.new (spec.below (spec.item_kinds item) kinds.old) }
+    ensures hand { Changes result kinds.new.hand (spec.below (spec.item_kinds item) kinds.old.hand) }
+    ensures known { kinds.new.known ≡ kinds.old.known }
 {
     match item {
         PrintItem::Text { index: _ } => true,
@@ -61,7 +65,8 @@ fn take_item(kinds: &mut Kinds, item: PrintItem) -> bool
 
 /// Takes the kinds of a line's items from the top, if they are there.
 fn take_items(kinds: &mut Kinds, items: &[PrintItem]) -> bool
-    ensures { Changes result kinds.new (spec.below (spec.items_kinds items.now) kinds.old) }
+    ensures hand { Changes result kinds.new.hand (spec.below (spec.items_kinds items.now) kinds.old.hand) }
+    ensures known { kinds.new.known ≡ kinds.old.known }
 {
     let mut rest = items;
     while let Some((item, others)) = rest.split_last() {
@@ -75,7 +80,8 @@ fn take_items(kinds: &mut Kinds, items: &[PrintItem]) -> bool
 
 /// Takes this many ints from the top, if they are there.
 fn take_ints(kinds: &mut Kinds, count: u32) -> bool
-    ensures { Changes result kinds.new (spec.below (spec.ints count) kinds.old) }
+    ensures hand { Changes result kinds.new.hand (spec.below (spec.ints count) kinds.old.hand) }
+    ensures known { kinds.new.known ≡ kinds.old.known }
 {
     for _ in 0..count {
         if !take_kind(kinds, Ty::Int) {
@@ -87,7 +93,8 @@ fn take_ints(kinds: &mut Kinds, count: u32) -> bool
 
 /// Puts a result on top, if there is one.
 fn push_result(kinds: &mut Kinds, gives: Gives) -> Result<(), NoMemory>
-    ensures { OnOk result (kinds.new ≡ spec.result gives ++ kinds.old) }
+    ensures hand { OnOk result (kinds.new.hand ≡ spec.result gives ++ kinds.old.hand) }
+    ensures known { kinds.new.known ≡ kinds.old.known }
 {
     match gives {
         Gives::Nothing => Ok(()),
@@ -98,7 +105,8 @@ fn push_result(kinds: &mut Kinds, gives: Gives) -> Result<(), NoMemory>
 
 /// Puts a result in the place of these kinds, if they are on top.
 fn swap(kinds: &mut Kinds, wanted: &[Ty], gives: Gives) -> Result<bool, NoMemory>
-    ensures { IfOk result (λ yes. Changes yes kinds.new (spec.swaps wanted.now (spec.result gives) kinds.old)) }
+    ensures hand { IfOk result (λ yes. Changes yes kinds.new.hand (spec.swaps wanted.now (spec.result gives) kinds.old.hand)) }
+    ensures known { kinds.new.known ≡ kinds.old.known }
 {
     if !take_all(kinds, wanted) {
         return Ok(false);
@@ -121,7 +129,8 @@ fn parameters_of(function: &Code) -> &[Ty]
 
 /// What a call of the function does, if there is one.
 fn call(kinds: &mut Kinds, function: Option<&Code>) -> Result<bool, NoMemory>
-    ensures { IfOk result (λ yes. Changes yes kinds.new (spec.calls (option_copied function.entry) kinds.old)) }
+    ensures hand { IfOk result (λ yes. Changes yes kinds.new.hand (spec.calls (option_copied function.entry) kinds.old.hand)) }
+    ensures known { kinds.new.known ≡ kinds.old.known }
 {
     match function {
         None => Ok(false),
@@ -137,7 +146,8 @@ fn call(kinds: &mut Kinds, function: Option<&Code>) -> Result<bool, NoMemory>
 
 /// Puts the kind of a local on top, if there is such a local.
 fn load(kinds: &mut Kinds, local: Option<&Ty>) -> Result<bool, NoMemory>
-    ensures { IfOk result (λ yes. Changes yes kinds.new (spec.loads (option_copied local.entry) kinds.old)) }
+    ensures hand { IfOk result (λ yes. Changes yes kinds.new.hand (spec.loads (option_copied local.entry) kinds.old.hand)) }
+    ensures known { kinds.new.known ≡ kinds.old.known }
 {
     match local {
         None => Ok(false),
@@ -150,7 +160,8 @@ fn load(kinds: &mut Kinds, local: Option<&Ty>) -> Result<bool, NoMemory>
 
 /// Takes the kind of a local from the top, if there is such a local and the kind is there.
 fn store(kinds: &mut Kinds, local: Option<&Ty>) -> bool
-    ensures { Changes result kinds.new (spec.stores (option_copied local.entry) kinds.old) }
+    ensures hand { Changes result kinds.new.hand (spec.stores (option_copied local.entry) kinds.old.hand) }
+    ensures known { kinds.new.known ≡ kinds.old.known }
 {
     match local {
         None => false,
@@ -160,7 +171,8 @@ fn store(kinds: &mut Kinds, local: Option<&Ty>) -> bool
 
 /// Takes two of one kind from the top, if they are there, and puts a truth in their place.
 fn compare(kinds: &mut Kinds) -> Result<bool, NoMemory>
-    ensures { IfOk result (λ yes. Changes yes kinds.new (spec.compares kinds.old)) }
+    ensures hand { IfOk result (λ yes. Changes yes kinds.new.hand (spec.compares kinds.old.hand)) }
+    ensures known { kinds.new.known ≡ kinds.old.known }
 {
     match kinds.pop() {
         None => Ok(false),
@@ -176,7 +188,8 @@ fn compare(kinds: &mut Kinds) -> Result<bool, NoMemory>
 
 /// What the instruction of the code does, where it finds what it pops.
 pub fn after(kinds: &mut Kinds, m: &Module, c: &Code, instr: &Instr) -> Result<bool, NoMemory>
-    ensures { IfOk result (λ yes. Changes yes kinds.new (spec.after m.now c.now instr.now kinds.old)) }
+    ensures hand { IfOk result (λ yes. Changes yes kinds.new.hand (spec.after m.now c.now instr.now kinds.old.hand)) }
+    ensures known { kinds.new.known ≡ kinds.old.known }
 {
     match instr {
         Instr::Int(_) | Instr::Word(_) => swap(kinds, &[], Gives::Int),

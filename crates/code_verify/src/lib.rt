@@ -7,6 +7,7 @@ mod kinds;
 pub mod laws;
 mod owner;
 mod range;
+mod stacks;
 mod standing;
 mod tallies;
 mod uses;

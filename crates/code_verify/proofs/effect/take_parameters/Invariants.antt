@@ -3,7 +3,7 @@ use Rattle.code_verify.specs.Kinds.{below}
 use Rattle.code_verify.proofs.effect.take_parameters.Given as goal
 
 abbrev pub invariant-loop-kind : goal.invariant-loop-kind
-invariant-loop-kind l = below (reverse l.wanted) l.fn.kinds ≡ below (reverse l.rest) l.kinds
+invariant-loop-kind l = record { hand : below (reverse l.wanted) l.fn.kinds.hand ≡ below (reverse l.rest) l.kinds.hand; known : l.kinds.known ≡ l.fn.kinds.known }
 
 abbrev pub decreases-loop-kind : goal.decreases-loop-kind
 decreases-loop-kind l = length l.rest
