@@ -1,6 +1,7 @@
 //! The rules on one code.
 
 ghost use Rattle.std.specs.Prelude.{◌≡◌, ◌↔◌, IsTrue, IfOk};
+ghost use Rattle.bytecode.specs.Spelling.{AreAscending};
 ghost use Rattle.code_verify.specs.Tests.{IsCode, BeginsWithInts, IsQuietBlock};
 
 use crate::owner::Owner;
@@ -15,6 +16,7 @@ use std::alloc::Global;
 
 /// Whether the code of this owner keeps all rules, tally words aside that a block uses.
 pub fn is_code(alloc: Global, m: &Module, owner: Owner, c: &Code) -> Result<bool, NoMemory>
+    requires ascending { AreAscending m.now.tallies }
     ensures { IfOk result (λ yes. IsTrue yes ↔ IsCode m.now owner c.now) }
 {
     if !has_shape(c) {
@@ -43,6 +45,7 @@ pub fn is_quiet_block(
     uses: &Items<bool>,
     c: &Code,
 ) -> Result<bool, NoMemory>
+    requires ascending { AreAscending m.now.tallies }
     ensures { IfOk result (λ yes. IsTrue yes ↔ IsQuietBlock m.now uses.now c.now) }
 {
     if !begins_with_ints(c) {

@@ -1,6 +1,7 @@
 //! Where instructions may stand.
 
 ghost use Rattle.std.specs.Prelude.{◌≡◌, ◌↔◌, IsTrue};
+ghost use Rattle.bytecode.specs.Spelling.{AreAscending};
 ghost use Rattle.code_verify.specs.Rules.{IsPlainArray, IsNotMains, CallsNoLater, MayStandInMain};
 ghost use Rattle.code_verify.specs.Tests.{MayStandIn, KeepsRules, Each};
 
@@ -16,6 +17,7 @@ const MOST_BLOCKS: u32 = 64;
 
 /// Whether the array of the instruction, if it has one, holds no tally word.
 fn is_plain_array(m: &Module, instr: &Instr) -> bool
+    requires ascending { AreAscending m.now.tallies }
     ensures { IsTrue result ↔ IsPlainArray m.now instr.now }
 {
     match instr {
@@ -73,6 +75,7 @@ fn may_stand_in(m: &Module, owner: Owner, instr: &Instr) -> bool
 
 /// Whether the instruction keeps the rules that need no kinds.
 fn keeps_rules(m: &Module, owner: Owner, c: &Code, place: usize, instr: &Instr) -> bool
+    requires ascending { AreAscending m.now.tallies }
     ensures { IsTrue result ↔ KeepsRules m.now owner c.now place instr.now }
 {
     if !is_in_range(m, c, instr) || !is_ahead(place, instr) {
@@ -86,6 +89,7 @@ fn keeps_rules(m: &Module, owner: Owner, c: &Code, place: usize, instr: &Instr) 
 
 /// Whether all instructions of the code keep the rules that need no kinds.
 pub fn instructions_fit(m: &Module, owner: Owner, c: &Code) -> bool
+    requires ascending { AreAscending m.now.tallies }
     ensures { IsTrue result ↔ Each (KeepsRules m.now owner c.now) c.now.instrs }
 {
     for (place, instr) in c.instrs.as_slice().iter().enumerate() {

@@ -2,6 +2,7 @@
 
 ghost use Rattle.std.specs.Prelude.{◌≡◌, ◌↔◌, ◌≤◌, IsTrue, IfOk, MatchResult, length};
 ghost use Rattle.std.specs.List.{AllByRecursion};
+ghost use Rattle.bytecode.specs.Spelling.{AreAscending};
 ghost use Rattle.code_verify.specs.Rules.{IsWord, IsVerified};
 ghost use Rattle.code_verify.specs.Tests.{Each, IsCode, IsQuietBlock, HasParts};
 ghost use Rattle.code_verify.specs.declared.owner.Owner.TheVariants.{Function, Main};
@@ -65,7 +66,8 @@ fn has_parts(m: &Module) -> bool
 
 /// Whether the code of each function keeps all rules.
 fn functions_fit(alloc: Global, m: &Module) -> Result<bool, NoMemory>
-    requires { length m.now.functions ≤ 256 }
+    requires few { length m.now.functions ≤ 256 }
+    requires ascending { AreAscending m.now.tallies }
     ensures { IfOk result (λ yes. IsTrue yes ↔ Each (λ f c. IsCode m.now (Function f) c) m.now.functions) }
 {
     let mut number: u32 = 0;
@@ -80,6 +82,7 @@ fn functions_fit(alloc: Global, m: &Module) -> Result<bool, NoMemory>
 
 /// Whether the code of each block keeps all rules, where the list says which functions read or set a tally word.
 fn blocks_fit(alloc: Global, m: &Module, uses: &Items<bool>) -> Result<bool, NoMemory>
+    requires ascending { AreAscending m.now.tallies }
     ensures { IfOk result (λ yes. IsTrue yes ↔ Each (λ b c. IsQuietBlock m.now uses.now c) m.now.blocks) }
 {
     for block in m.blocks.as_slice() {

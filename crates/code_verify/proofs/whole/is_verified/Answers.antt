@@ -7,8 +7,8 @@ use Rattle.code_verify.proofs.whole.is_verified.Goals as goal
 pub returns-then-not-branch : goal.returns-then-not-branch
 returns-then-not-branch c = (λ no. absurd cc, λ v. sym c.if-not-branch.true ∙ c.in_ok-functions_fit.ensures.1 (verified_functions c.args.m.now v))
 
-pub uses_of-requires : goal.uses_of-requires
-uses_of-requires c = calls_backwards c.args.m.now (c.in_ok-functions_fit.ensures.0 c.if-not-branch.false)
+pub uses_of-requires-clause-backwards : goal.uses_of-requires-clause-backwards
+uses_of-requires-clause-backwards c = calls_backwards c.args.m.now (c.in_ok-functions_fit.ensures.0 c.if-not-branch.false)
 
 pub returns : goal.returns
 returns c =
