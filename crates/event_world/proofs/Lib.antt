@@ -1,4 +1,5 @@
 pub mod Caller
 pub mod Turns
 pub mod Meant
+pub mod Courses
 pub mod Examples

@@ -18,17 +18,17 @@ use Rattle.step_laws.proofs.Closed.{each_append, jobs_in-append}
 use Rattle.event_world.proofs.Turns.{IsBusyBelow, DeliveryFits, TurnFits, turn_fits}
 
 -- what is still to come
-abbrev rest_of : Phase → Meaning
+abbrev pub rest_of : Phase → Meaning
 rest_of (Over ending) = record { events = []; ending = ending }
 rest_of (Open job next history) = going_on job (meant job) (λ later. meaning_of (next later))
 
 -- an open step fits what comes after this many steps
-record OpenFits (steps : ℕ) (job : StepJob) (next : Memory → Main) : Type 0 where
-  number : steps < job.number
-  small : size_of job ≤ 65536
-  later : (memory : Memory) → IsNumbered job.number (next memory)
+pub record OpenFits (steps : ℕ) (job : StepJob) (next : Memory → Main) : Type 0 where
+  pub number : steps < job.number
+  pub small : size_of job ≤ 65536
+  pub later : (memory : Memory) → IsNumbered job.number (next memory)
 
-abbrev PhaseFits : ℕ → Phase → Type 0
+abbrev pub PhaseFits : ℕ → Phase → Type 0
 PhaseFits steps (Over ending) = Unit {0}
 PhaseFits steps (Open job next history) = OpenFits steps job next
 
@@ -37,17 +37,17 @@ phase_less a b (Over ending) le fits = tt
 phase_less a b (Open job next history) le fits = record { number = omega (arith, fits.number); small = fits.small; later = fits.later }
 
 -- the steps that are not closed yet
-abbrev steps_left : Phase → List StepJob
+abbrev pub steps_left : Phase → List StepJob
 steps_left (Over ending) = []
 steps_left (Open job next history) = job ∷ steps_behind (meant job) (λ later. steps_of (next later))
 
 -- what was shown, with what is to come, is the meaning, and so are the steps
-record RunFits (steps : ℕ) (run : Run) (meaning : Meaning) (jobs : List StepJob) : Type 0 where
-  shown : run.shown ++ (rest_of run.phase).events ≡ meaning.events
-  ending : (rest_of run.phase).ending ≡ meaning.ending
-  jobs_are : jobs_in run.closed ++ steps_left run.phase ≡ jobs
-  whole : Each IsWhole run.closed
-  phase : PhaseFits steps run.phase
+pub record RunFits (steps : ℕ) (run : Run) (meaning : Meaning) (jobs : List StepJob) : Type 0 where
+  pub shown : run.shown ++ (rest_of run.phase).events ≡ meaning.events
+  pub ending : (rest_of run.phase).ending ≡ meaning.ending
+  pub jobs_are : jobs_in run.closed ++ steps_left run.phase ≡ jobs
+  pub whole : Each IsWhole run.closed
+  pub phase : PhaseFits steps run.phase
 
 -- deliveries of steps so far
 record IsOlder (steps : ℕ) (d : Delivery) : Type 0 where
@@ -56,7 +56,7 @@ record IsOlder (steps : ℕ) (d : Delivery) : Type 0 where
   small : d.k < 65536
 
 -- the workers and their deliveries fit the open step
-abbrev TurnIn : Phase → (ℕ → Mode) → List Delivery → Type 0
+abbrev pub TurnIn : Phase → (ℕ → Mode) → List Delivery → Type 0
 TurnIn (Over ending) modes deliveries = Unit {0}
 TurnIn (Open job next history) modes deliveries = TurnFits job (record { history = history; modes = modes; deliveries = deliveries })
 
@@ -88,7 +88,7 @@ done_completes job history AllDone e right = right
 done_completes job history (Work k) e right = absurd (cc)
 done_completes job history Spent e right = absurd (cc)
 
-completes : (job : StepJob) (history : History) → is_complete job history ≡ true → IsComplete job history
+pub completes : (job : StepJob) (history : History) → is_complete job history ≡ true → IsComplete job history
 completes job history e = done_completes job history (claimed job history CALLER) e (claims_are_right job history CALLER)
 
 module _ (job : StepJob) (next : Memory → Main) (history : History) (legal : IsLegal job history) (complete : IsComplete job history) where
@@ -149,9 +149,9 @@ run_on_fresh steps (Opens job next) numbered =
     older_more a b le [] all = tt
     older_more a b le (d ∷ ds) all = (record { worker = all.0.worker; step = omega (arith, all.0.step); small = all.0.small }, older_more a b le ds all.1)
 
-record StateFits (main : Main) (state : State) : Type 0 where
-  run : RunFits 0 state.run (meaning_of main) (steps_of main)
-  turn : TurnIn state.run.phase state.modes state.deliveries
+pub record StateFits (main : Main) (state : State) : Type 0 where
+  pub run : RunFits 0 state.run (meaning_of main) (steps_of main)
+  pub turn : TurnIn state.run.phase state.modes state.deliveries
 
 -- an open step after a turn
 module _ (main : Main) (run : Run) (job : StepJob) (next : Memory → Main) (turn : Turn)
@@ -188,7 +188,7 @@ module _ (main : Main) (run : Run) (job : StepJob) (next : Memory → Main) (tur
         turn = settled_turn;
       }
 
-apply_fits : (main : Main) (e : Event) (state : State) → IsOfWorker e → StateFits main state → StateFits main (apply e state)
+pub apply_fits : (main : Main) (e : Event) (state : State) → IsOfWorker e → StateFits main state → StateFits main (apply e state)
 apply_fits main e state worker fits = by_phase state.run.phase refl
   where
     by_phase : (phase : Phase) → state.run.phase ≡ phase → StateFits main (apply_in phase e state)
@@ -199,7 +199,7 @@ apply_fits main e state worker fits = by_phase state.run.phase refl
         after_turn_fits main state.run job next _ (ap (λ p. state.run.shown ++ (rest_of p).events) (sym is) ∙ fits.run.shown) (ap (λ p. jobs_in state.run.closed ++ steps_left p) (sym is) ∙ fits.run.jobs_are) (ap (λ p. (rest_of p).ending) (sym is) ∙ fits.run.ending) fits.run.whole opens
         (turn_fits job opens.small (record { history = history; modes = state.modes; deliveries = state.deliveries }) turn e worker)
 
-apply_all_fits : (main : Main) (events : List Event) (state : State) → Each IsOfWorker events → StateFits main state → StateFits main (apply_all events state)
+pub apply_all_fits : (main : Main) (events : List Event) (state : State) → Each IsOfWorker events → StateFits main state → StateFits main (apply_all events state)
 apply_all_fits main [] state workers fits = fits
 apply_all_fits main (e ∷ events) state workers fits = apply_all_fits main events (apply e state) workers.1 (apply_fits main e state workers.0 fits)
 
@@ -240,9 +240,12 @@ finish_in_ends (Open job next history) modes deliveries fits turn =
     let done = completed_is_whole job history turn.legal turn.alone fits.small in
     closing_ends job next (completed job history) done.legal done.complete (λ memory. finish_main (next memory)) (λ memory. finish_main_ends job.number (next memory) (fits.later memory))
 
+pub first_fits : (main : Main) → IsNumbered 0 main → StateFits main (first_state main)
+first_fits main numbered = record { run = run_on_fits 0 main numbered; turn = run_on_fresh 0 main numbered (λ w. Idle) [] (λ w. tt) tt }
+
 pub world_is_meant : WorldIsMeant
 world_is_meant main events numbered workers =
-    let first : StateFits main (first_state main) = record { run = run_on_fits 0 main numbered; turn = run_on_fresh 0 main numbered (λ w. Idle) [] (λ w. tt) tt } in
+    let first : StateFits main (first_state main) = first_fits main numbered in
     let fits : StateFits main (apply_all events (first_state main)) = apply_all_fits main events (first_state main) workers first in
     let state = apply_all events (first_state main) in
     let ends = finish_in_ends state.run.phase state.modes state.deliveries fits.run.phase fits.turn in
