@@ -2,5 +2,6 @@ pub mod Counts
 pub mod LineCuts
 pub mod Numbers
 pub mod EventLists
+pub mod Workers
 pub mod ScriptParts
 pub mod WorkedScripts
