@@ -20,10 +20,6 @@ mod runs;
 #[cfg(test)]
 mod sizes;
 #[cfg(test)]
-mod tokens;
-#[cfg(test)]
-mod trees;
-#[cfg(test)]
 mod words;
 #[cfg(test)]
 mod workers;
