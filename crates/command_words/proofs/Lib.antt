@@ -1,2 +1,11 @@
-pub mod Parts
 pub mod Numbers
+pub mod Rules
+pub mod Steps
+pub mod Names
+pub mod Turns
+pub mod PlainWords
+pub mod Runs
+pub mod Taken
+pub mod Amounts
+pub mod Levels
+pub mod Known

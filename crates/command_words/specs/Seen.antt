@@ -3,12 +3,7 @@ use Rattle.std.specs.Prelude.{option_map, string_bytes}
 use Rattle.command_words.specs.declared.command.Flags.{Flags}
 use Rattle.command_words.specs.declared.command.Command.{Command}
 use Rattle.command_words.specs.declared.command.Command.TheVariants.{Check, Eval, Run, Sim, Build, Exec, Gen, Selfrun}
-use Rattle.command_words.specs.declared.part.Part.{Part}
-use Rattle.command_words.specs.declared.part.Part.TheVariants.{Operand, Valued, Flag}
-use Rattle.command_words.specs.declared.part.Saying.{Saying}
-use Rattle.command_words.specs.declared.part.Saying.TheVariants.{Says, Opens, Wrong}
 use Rattle.command_words.specs.Commands as spec
-use Rattle.command_words.specs.Words as words
 
 -- the options of a run
 abbrev pub flags_seen : Flags → spec.Flags
@@ -32,15 +27,3 @@ command_seen (Build file into) = spec.build (string_bytes file) (string_bytes in
 command_seen (Exec file flags) = spec.exec (string_bytes file) (flags_seen flags)
 command_seen (Gen program) = spec.gen program.number program.size
 command_seen (Selfrun program) = spec.selfrun program.number program.size
-
--- the part of a command line
-abbrev pub part_seen : Part → words.Part
-part_seen (Operand text) = words.operand text.now
-part_seen (Valued setting value) = words.option setting value.now
-part_seen (Flag setting) = words.flag setting
-
--- what a word says
-abbrev pub saying_seen : Saying → words.Saying
-saying_seen (Says part) = words.says (part_seen part)
-saying_seen (Opens setting) = words.opens setting
-saying_seen Wrong = words.wrong

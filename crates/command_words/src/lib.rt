@@ -2,9 +2,10 @@
 #![tactic(auto)]
 
 mod command;
+mod found;
+mod line;
 mod name;
 mod number;
-mod part;
 mod read;
 pub mod rows;
 

@@ -1,6 +1,7 @@
 //! The names of commands, and of the options and flags that they have.
 
 ghost use Rattle.std.specs.Prelude.{◌≡◌};
+ghost use Rattle.command_words.specs.Line as line;
 ghost use Rattle.command_words.specs.Words as words;
 
 /// The name of a command.
@@ -53,40 +54,21 @@ impl Verb {
             None
         }
     }
-
-    /// Whether the command has the option or flag.
-    pub(crate) fn has(self, setting: Setting) -> bool
-        ensures { result ≡ words.has_setting self setting }
-    {
-        match self {
-            Verb::Run | Verb::Exec => true,
-            Verb::Sim => setting.is(Setting::Log),
-            Verb::Check | Verb::Eval | Verb::Build | Verb::Gen | Verb::Selfrun => false,
-        }
-    }
 }
 
 impl Setting {
-    /// The option or flag of this name.
-    pub(crate) fn named(word: &str) -> Option<Setting>
-        ensures { result ≡ words.setting_named word.now }
+    /// Its name, without the two dashes.
+    pub(crate) fn name(self) -> &'static str
+        ensures { result.now ≡ line.name_of self }
     {
-        if word == "--workers" {
-            Some(Setting::Workers)
-        } else if word == "--fuel" {
-            Some(Setting::Fuel)
-        } else if word == "--frames" {
-            Some(Setting::Frames)
-        } else if word == "--script" {
-            Some(Setting::Script)
-        } else if word == "--log" {
-            Some(Setting::Log)
-        } else if word == "--report" {
-            Some(Setting::Report)
-        } else if word == "--steps" {
-            Some(Setting::Steps)
-        } else {
-            None
+        match self {
+            Setting::Workers => "workers",
+            Setting::Fuel => "fuel",
+            Setting::Frames => "frames",
+            Setting::Script => "script",
+            Setting::Log => "log",
+            Setting::Report => "report",
+            Setting::Steps => "steps",
         }
     }
 
@@ -98,22 +80,6 @@ impl Setting {
             Setting::Workers | Setting::Fuel | Setting::Frames | Setting::Script | Setting::Log =>
                 true,
             Setting::Report | Setting::Steps => false,
-        }
-    }
-
-    /// Whether it is the other one.
-    pub(crate) fn is(self, other: Setting) -> bool
-        ensures { result ≡ words.is_same self other }
-    {
-        match (self, other) {
-            (Setting::Workers, Setting::Workers)
-            | (Setting::Fuel, Setting::Fuel)
-            | (Setting::Frames, Setting::Frames)
-            | (Setting::Script, Setting::Script)
-            | (Setting::Log, Setting::Log)
-            | (Setting::Report, Setting::Report)
-            | (Setting::Steps, Setting::Steps) => true,
-            _ => false,
         }
     }
 }

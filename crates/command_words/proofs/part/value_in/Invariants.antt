@@ -1,7 +1,0 @@
-use Rattle.std.proofs.Common.{◌≡◌, map, drop}
-use Rattle.command_words.specs.Words as words
-use Rattle.command_words.specs.Seen.{part_seen}
-use Rattle.command_words.proofs.part.value_in.Given as goal
-
-abbrev pub invariant-loop-part : goal.invariant-loop-part
-invariant-loop-part l = words.value_in l.setting (map part_seen (drop l.part-index l.parts)) ≡ words.value_in l.setting (map part_seen l.parts)
