@@ -116,17 +116,7 @@ fn statuses(rt: HostRuntime) -> Result<(), Fail> {
 }
 
 #[test]
-fn commands_that_are_not_served(rt: HostRuntime) -> Result<(), Fail> {
-    let lists: [&[&str]; 2] = [
-        &["sim", "p.csl", "e"],
-        &["sim", "p.csl", "p.csl", "--log=l"],
-    ];
-    for list in lists {
-        let called = call_failing(&rt, rt.alloc(), list, GOOD, (0, 0, 0))?;
-        assert_eq!(rt; called.err.bytes(), b"no command\n".as_slice());
-        assert_eq!(rt; called.out.bytes(), b"".as_slice());
-        assert_eq!(rt; called.status, 2);
-    }
+fn options_in_any_order(rt: HostRuntime) -> Result<(), Fail> {
     let usual = ["run", "--workers=4", "p.csl", "--fuel", "5", "--frames=64"];
     let called = call_failing(&rt, rt.alloc(), &usual, GOOD, (0, 0, 0))?;
     assert_eq!(rt; called.out.bytes(), b"1\n2\n".as_slice());
@@ -194,10 +184,10 @@ fn plain_does_what_the_top_call_does(rt: HostRuntime) -> Result<(), Fail> {
         events: String::from_str(alloc, "e")?,
         log: None,
     };
-    assert_eq!(rt; plain(alloc, &simulated, &mut files, &mut out, &mut err), 2);
+    assert_eq!(rt; plain(alloc, &simulated, &mut files, &mut out, &mut err), 3);
     let text = b"shared {\n}\nmain {\n  print ( 1 ) ;\n}\n1\n".as_slice();
     assert_eq!(rt; out.bytes(), text);
-    assert_eq!(rt; err.bytes(), b"no command\n".as_slice());
+    assert_eq!(rt; err.bytes(), b"file e: cannot be used\n".as_slice());
     Ok(())
 }
 

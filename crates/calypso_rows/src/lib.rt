@@ -18,6 +18,8 @@ mod refusals;
 #[cfg(test)]
 mod runs;
 #[cfg(test)]
+mod simulations;
+#[cfg(test)]
 mod sizes;
 #[cfg(test)]
 mod words;

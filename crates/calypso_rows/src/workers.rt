@@ -11,7 +11,7 @@ use std::test::Fail;
 use std::thread;
 use std::thread::Threads;
 
-const SQUARES: &[u8] =
+pub(crate) const SQUARES: &[u8] =
     b"shared { int a[4]; int s; } main { parbegin routine[4](int w, int id) { a[id] = id * id; } parend; \
 for (int i = 0; i < 4; i += 1) { s += a[i]; } print(\"sum\", s); }";
 
@@ -22,7 +22,7 @@ print(a[0], a[1]); }";
 const TALLY: &[u8] =
     b"shared { tally int t; } main { parbegin routine[8](int w, int id) { t += id; } parend; print(t); }";
 
-const COUNTER: &[u8] = b"shared { int x; } main { for (int i = 0; i < 2; i += 1) \
+pub(crate) const COUNTER: &[u8] = b"shared { int x; } main { for (int i = 0; i < 2; i += 1) \
 { parbegin routine[1](int w, int id) { x = x + 1; } parend; } print(x); }";
 
 const FAR: &[u8] =
@@ -51,13 +51,13 @@ type Row = (
 
 /// What came of a call, and the files behind it.
 #[derive(Drop)]
-struct Ran {
-    called: Called,
-    files: MemFiles,
+pub(crate) struct Ran {
+    pub called: Called,
+    pub files: MemFiles,
 }
 
 /// Calls the program where `p.csl` and `s` hold these texts and `l` may be created; the files fail at this call, or at none where it is 0.
-fn run_words<R: Threads + Wait + Sync, G: Gate>(
+pub(crate) fn run_words<R: Threads + Wait + Sync, G: Gate>(
     rt: &R,
     alloc: Global,
     words: &[&str],
