@@ -127,7 +127,7 @@ fn modules_by_their_bytes(rt: HostRuntime) -> Result<(), Fail> {
 }
 
 /// Builds a program into `into`, and then runs that file by `exec` with this much fuel. The build leaves out and err as they are.
-fn built_is<R: Threads + Wait + Sync + Abort>(
+pub(crate) fn built_is<R: Threads + Wait + Sync + Abort>(
     rt: &R,
     alloc: Global,
     program: &[u8],
@@ -141,7 +141,7 @@ fn built_is<R: Threads + Wait + Sync + Abort>(
         &["build", "p.csl", into],
         program,
         b"old",
-        4096,
+        65536,
         Vec::new(alloc),
     )?;
     assert_eq!(rt; built.err.bytes(), b"".as_slice());

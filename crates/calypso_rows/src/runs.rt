@@ -1,8 +1,7 @@
 //! What programs print, and how they end.
 
 use crate::calls::call;
-use compile_steps::compile;
-use csl_reader::read_program;
+use crate::modules::built_is;
 use std::alloc::Global;
 use std::process::Abort;
 use std::sync::Wait;
@@ -12,25 +11,16 @@ use std::thread::Threads;
 /// A program, its status, and what the output and the error stream get.
 type Row = (&'static [u8], u8, &'static [u8], &'static [u8]);
 
-/// Whether the text is an accepted program that compiles.
-fn is_compiled(alloc: Global, text: &[u8]) -> bool {
-    if text.len() > 1_048_576 {
-        return false;
-    }
-    match read_program(alloc, text) {
-        Ok(program) => compile(alloc, &program).is_ok(),
-        Err(_) => false,
-    }
-}
-
-/// Compiles each program, and runs it by `run` and by `eval`.
+/// Runs each program by `build` and then `exec`, by `run`, and by `eval`.
 fn all_come<R: Threads + Wait + Sync + Abort>(
     rt: &R,
     alloc: Global,
     rows: &[Row],
 ) -> Result<(), Fail> {
     for (text, status, out, err) in rows {
-        assert!(rt; *status == 4 || is_compiled(alloc, text));
+        if *status != 4 {
+            built_is(rt, alloc, text, "m", "1000000", (*status, *out, *err))?;
+        }
         for verb in ["run", "eval"] {
             let called = call(rt, alloc, &[verb, "p.csl"], text, Vec::new(alloc))?;
             assert_eq!(rt; called.err.bytes(), *err);

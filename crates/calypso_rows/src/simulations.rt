@@ -143,7 +143,14 @@ fn one_answer_arrives_a_hundred_thousand_times(rt: HostRuntime) -> Result<(), Fa
     let alloc = rt.alloc();
     let events = lines(alloc, "claim 0\nfinish 0\n", "arrive 1\n", 100_000)?;
     let words = ["sim", "p.csl", "s", "--log", "l"];
-    let ran = run_words(&rt, alloc, &words, (COUNTER, events.as_slice()), 0, &OpenGate)?;
+    let ran = run_words(
+        &rt,
+        alloc,
+        &words,
+        (COUNTER, events.as_slice()),
+        0,
+        &OpenGate,
+    )?;
     assert_eq!(rt; ran.called.out.bytes(), b"2\n".as_slice());
     assert_eq!(rt; ran.called.status, 0);
     let first = "step 1 of 1\nclaim 0 0\narrive 0 1 0 first\nstep 2 of 1\n";
