@@ -12,4 +12,5 @@ pub mod Alone
 pub mod Texts
 pub mod Runs
 pub mod Scripted
+pub mod Simulated
 pub mod Executed

@@ -16,7 +16,6 @@ use Rattle.csl_reader.specs.Readings as reading
 use Rattle.calypso_cli.specs.Steps.{Holds, ReadsAs, IsRefusal, Spells, IsModuleRefusal, StopsLoad, EndsWork}
 use Rattle.calypso_cli.specs.Outcomes.{Sight, Outcome, Work, Does}
 use Rattle.calypso_cli.specs.Commands.{IsLoaded, LoadsProgram, LoadsModule, CanEnd, RunsProgram, IsRefusedText, IsModule, IsNoModule, module_limit, WithProgram, WithModule, ComesTo, ended, usual_fuel, run_of, check_of}
-use Rattle.calypso_cli.specs.Served.{is_served, served}
 use Rattle.calypso_cli.specs.Promise.{Objects, Outside, faults_of, CountsStay, Worked, for_memory, Touches, HoldsFront, as_before, HoldsFronts, Sees, Gets, Works, DoesCommand, DoesNothing, KeepsPromise, MayUse, MayDo}
 use Rattle.calypso_cli.proofs.Kept.{LoadsFirst, LoadsOne, does_stop, does_work, itself_not}
 use Rattle.calypso_cli.proofs.Readings.{programs_once, modules_once, one_module}
@@ -246,27 +245,20 @@ promise_of_no_memory given objects before_err after_err before_faults after_faul
   counts = err_counts objects before_err after_err before_faults after_faults later;
 }
 
--- a command that is served, and one that is not
-pub is_given : (command : Command) → is_served command ≡ true → served (Some command) ≡ Some command
-is_given command h = ap (λ b. if b then Some command else None) h
+-- what a command may use
+pub may_use : (may_load may_write : List ℕ → Type 0) (command : Command) → MayDo may_load may_write (Some command) → MayUse may_load may_write command
+may_use may_load may_write command may = may command refl
 
-pub not_given : (command : Command) → is_served command ≡ false → served (Some command) ≡ None
-not_given command h = ap (λ b. if b then Some command else None) h
-
--- what a served command may use
-pub may_use : (may_load may_write : List ℕ → Type 0) (command : Command) → is_served command ≡ true → MayDo may_load may_write (served (Some command)) → MayUse may_load may_write command
-may_use may_load may_write command h may = may command (is_given command h)
-
--- a served command was carried out, and reported this
-pub promise_of_run : (before after : Outside) (status : ℕ) (command : Command) (ending : Ending) (report : List ℕ) → is_served command ≡ true
+-- a command was carried out, and reported this
+pub promise_of_run : (before after : Outside) (status : ℕ) (command : Command) (ending : Ending) (report : List ℕ)
     → Works command before.objects after.objects ending report → Gets before.err after.err before.err_faults after.err_faults (err_text ending ++ report)
-    → status ≡ status_of ending → CountsStay before after → KeepsPromise (served (Some command)) before after status
-promise_of_run before after status command ending report h works line answers counts =
-    promise_of_command (served (Some command)) before after status command ending report (is_given command h) works line answers counts
+    → status ≡ status_of ending → CountsStay before after → KeepsPromise (Some command) before after status
+promise_of_run before after status command ending report works line answers counts =
+    promise_of_command (Some command) before after status command ending report refl works line answers counts
 
--- a served command was carried out, and reported nothing
-pub promise_of_served : (before after : Outside) (status : ℕ) (command : Command) (ending : Ending) → is_served command ≡ true
+-- a command was carried out, and reported nothing
+pub promise_of_plain : (before after : Outside) (status : ℕ) (command : Command) (ending : Ending)
     → Works command before.objects after.objects ending [] → Gets before.err after.err before.err_faults after.err_faults (err_text ending)
-    → status ≡ status_of ending → CountsStay before after → KeepsPromise (served (Some command)) before after status
-promise_of_served before after status command ending h works line answers counts =
-    promise_of_run before after status command ending [] h works (alone before.err after.err before.err_faults after.err_faults ending line) answers counts
+    → status ≡ status_of ending → CountsStay before after → KeepsPromise (Some command) before after status
+promise_of_plain before after status command ending works line answers counts =
+    promise_of_run before after status command ending [] works (alone before.err after.err before.err_faults after.err_faults ending line) answers counts

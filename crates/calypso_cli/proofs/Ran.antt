@@ -5,12 +5,10 @@ use Rattle.std.specs.Io.{StartsWith}
 use Rattle.std.specs.Io.KnownBytes.{Appends}
 use Rattle.std.proofs.Math.Seq.{take-length}
 use Rattle.cal_base.specs.Causes.{Rose}
-use Rattle.cal_base.specs.Claims.{StepJob}
 use Rattle.cal_base.specs.Contents.{Contents, Told, SameFiles, SameOthers, AppendsPrefix}
 use Rattle.fault_script.specs.Rows.{Row}
 use Rattle.run_report.specs.Logs.{Trace, log_text}
 use Rattle.run_report.proofs.Fronts.{whole_front}
-use Rattle.calypso_engine.specs.Traces.{IsTraceOf}
 use Rattle.command_words.specs.Commands.{Flags, Command}
 use Rattle.calypso_cli.specs.Endings.{files, out, failed, Ending, cannot_write, no_memory, output_failed, kind_of, IsBeforeWork}
 use Rattle.calypso_cli.specs.Outcomes.{Sight, creates, Outcome, Work}
@@ -28,7 +26,7 @@ text_in None text = []
 text_in (Some log) text = text
 
 -- what a command comes to, seen from its run: one outcome, which reaches its log; what it writes is its log, and what it reports is of its run
-pub record RunsThere (command : Command) (flags : Flags) (rows : List Row) (jobs : List StepJob) (work : Work) (told : Option Contents) : Type 0 where
+pub record RunsThere (command : Command) (flags : Flags) (rows : List Row) (IsTrace : Trace → Type 0) (work : Work) (told : Option Contents) : Type 0 where
   pub there : Outcome
   pub ends : there.ending ≡ work.ending
   pub text : there.text ≡ work.text
@@ -38,8 +36,8 @@ pub record RunsThere (command : Command) (flags : Flags) (rows : List Row) (jobs
   pub reached : (log : List ℕ) → flags.log ≡ Some log → Contains there.reached (creates log)
   pub written : (name : List ℕ) → IsWritten command name → flags.log ≡ Some name
   pub is_written : (name : List ℕ) → flags.log ≡ Some name → IsWritten command name
-  pub writes : (sight : Sight) → told ≡ Some sight.files → (trace : Trace) → IsTraceOf jobs trace → Writes command sight trace (text_in flags.log (log_text trace))
-  pub reports : (sight : Sight) → told ≡ Some sight.files → (trace : Trace) (report : List ℕ) → IsTraceOf jobs trace → ReportsRun flags rows trace report → Reports command sight trace report
+  pub writes : (sight : Sight) → told ≡ Some sight.files → (trace : Trace) → IsTrace trace → Writes command sight trace (text_in flags.log (log_text trace))
+  pub reports : (sight : Sight) → told ≡ Some sight.files → (trace : Trace) (report : List ℕ) → IsTrace trace → ReportsRun flags rows trace report → Reports command sight trace report
   pub may_report : (trace : Trace) (report : List ℕ) → ReportsRun flags rows trace report → MayReport command report
   pub writes_out : WritesOut command
   pub can_end : CanEnd command work.ending
@@ -54,9 +52,9 @@ others_of_log : (text : List ℕ) (log : Option (List ℕ)) (m n : Contents) →
 others_of_log text None m n h = h
 others_of_log text (Some log) m n h = h.others
 
-others_of_front : (jobs : List StepJob) (log : Option (List ℕ)) (m n : Contents) → KeepsLogFront jobs log m n → KeepsOthers log m n
-others_of_front jobs None m n h = h
-others_of_front jobs (Some log) m n h = h.1
+others_of_front : (IsTrace : Trace → Type 0) (log : Option (List ℕ)) (m n : Contents) → KeepsLogFront IsTrace log m n → KeepsOthers log m n
+others_of_front IsTrace None m n h = h
+others_of_front IsTrace (Some log) m n h = h.1
 
 -- what is not the log is as before
 other_kept : (log : Option (List ℕ)) (m n : Contents) → KeepsOthers log m n → (name : List ℕ) → (log ≡ Some name → ⊥) → n name ≡ m name
@@ -68,7 +66,7 @@ log_held : (text : List ℕ) (log : Option (List ℕ)) (m n : Contents) → Keep
 log_held text None m n h name e = absurd (cc)
 log_held text (Some log) m n h name e = let same : name ≡ log = cc in ap n same ∙ h.here
 
-module _ (command : Command) (flags : Flags) (rows : List Row) (jobs : List StepJob) (work : Work) (before after : Objects) (run : RunsThere command flags rows jobs work before.files) where
+module _ (command : Command) (flags : Flags) (rows : List Row) (IsTrace : Trace → Type 0) (work : Work) (before after : Objects) (run : RunsThere command flags rows IsTrace work before.files) where
   touched : (ending : Ending) → (WasTurnedAway ending → ⊥) → (a b : Option Contents) → Told a b (KeepsOthers flags.log) → Told a b (Touches command ending)
   touched ending stays None b h = tt
   touched ending stays (Some m) None h = absurd h
@@ -83,10 +81,10 @@ module _ (command : Command) (flags : Flags) (rows : List Row) (jobs : List Step
   all_held trace sight (Some contents) h = λ name is. log_held (log_text trace) flags.log sight.files contents h name (run.written name is)
 
   -- a text that the log may hold
-  log_text_written : (sight : Sight) → before.files ≡ Some sight.files → (trace : Trace) → IsTraceOf jobs trace → (name : List ℕ) → flags.log ≡ Some name → Writes command sight trace (log_text trace)
+  log_text_written : (sight : Sight) → before.files ≡ Some sight.files → (trace : Trace) → IsTrace trace → (name : List ℕ) → flags.log ≡ Some name → Writes command sight trace (log_text trace)
   log_text_written sight is trace traced name e = subst (λ o. Writes command sight trace (text_in o (log_text trace))) e (run.writes sight is trace traced)
 
-  whole_log : (trace : Trace) → IsTraceOf jobs trace → (sight : Sight) → before.files ≡ Some sight.files → (o : Option Contents) → Told (Some sight.files) o (KeepsLog (log_text trace) flags.log)
+  whole_log : (trace : Trace) → IsTrace trace → (sight : Sight) → before.files ≡ Some sight.files → (o : Option Contents) → Told (Some sight.files) o (KeepsLog (log_text trace) flags.log)
       → HoldsFronts command sight o
   whole_log trace traced sight is None h = tt
   whole_log trace traced sight is (Some contents) h = λ name written.
@@ -95,19 +93,19 @@ module _ (command : Command) (flags : Flags) (rows : List Row) (jobs : List Step
       subst (HoldsFront command sight name) (sym held) (front_of trace (log_text trace) (log_text trace) (log_text_written sight is trace traced name e) (take-length (log_text trace)))
 
   -- a front of the log
-  one_front : (sight : Sight) → before.files ≡ Some sight.files → (name : List ℕ) → flags.log ≡ Some name → {o : Option (List ℕ)} → HoldsLogFront jobs (sight.files name) o → HoldsFront command sight name o
+  one_front : (sight : Sight) → before.files ≡ Some sight.files → (name : List ℕ) → flags.log ≡ Some name → {o : Option (List ℕ)} → HoldsLogFront IsTrace (sight.files name) o → HoldsFront command sight name o
   one_front sight is name e step.kept = as_before
   one_front sight is name e step.emptied = nothing
   one_front sight is name e (step.front trace text traced starts) = front_of trace (log_text trace) text (log_text_written sight is trace traced name e) starts
 
-  some_front : (sight : Sight) → before.files ≡ Some sight.files → (contents : Contents) (name : List ℕ) (log : Option (List ℕ)) → log ≡ flags.log → log ≡ Some name → KeepsLogFront jobs log sight.files contents
+  some_front : (sight : Sight) → before.files ≡ Some sight.files → (contents : Contents) (name : List ℕ) (log : Option (List ℕ)) → log ≡ flags.log → log ≡ Some name → KeepsLogFront IsTrace log sight.files contents
       → HoldsFront command sight name (contents name)
   some_front sight is contents name None same e h = absurd (cc)
   some_front sight is contents name (Some log) same e h =
       let here : log ≡ name = cc in
-      one_front sight is name (sym same ∙ e) (subst (λ l. HoldsLogFront jobs (sight.files l) (contents l)) here h.0)
+      one_front sight is name (sym same ∙ e) (subst (λ l. HoldsLogFront IsTrace (sight.files l) (contents l)) here h.0)
 
-  fronts : (sight : Sight) → before.files ≡ Some sight.files → (o : Option Contents) → Told (Some sight.files) o (KeepsLogFront jobs flags.log) → HoldsFronts command sight o
+  fronts : (sight : Sight) → before.files ≡ Some sight.files → (o : Option Contents) → Told (Some sight.files) o (KeepsLogFront IsTrace flags.log) → HoldsFronts command sight o
   fronts sight is None h = tt
   fronts sight is (Some contents) h = λ name written. some_front sight is contents name flags.log refl (run.written name written) h
 
@@ -121,7 +119,7 @@ module _ (command : Command) (flags : Flags) (rows : List Row) (jobs : List Step
   ending_of outcome e = sym (ap (λ o. o.ending) e ∙ run.ends)
 
   -- what is told of the files, where the run gave up
-  gave_up : (ending : Ending) → (EndsByItself ending → ⊥) → (Worked ending → ⊥) → Told before.files after.files (KeepsLogFront jobs flags.log)
+  gave_up : (ending : Ending) → (EndsByItself ending → ⊥) → (Worked ending → ⊥) → Told before.files after.files (KeepsLogFront IsTrace flags.log)
       → ((sight : Sight) → before.files ≡ Some sight.files → (outcome : Outcome) → ComesTo command sight outcome → RunsAs outcome before after ending)
       → (sight : Sight) → Sees command before.files sight → OnSight command sight before after ending []
   gave_up ending not_itself idle left runs sight sees = let is : before.files ≡ Some sight.files = run.sees sight sees in record {
@@ -130,11 +128,11 @@ module _ (command : Command) (flags : Flags) (rows : List Row) (jobs : List Step
     wrote = inr (can_work sight is);
     runs = runs sight is;
     tells = λ did. absurd (idle did);
-    fronts = fronts sight is after.files (subst (λ a. Told a after.files (KeepsLogFront jobs flags.log)) is left);
+    fronts = fronts sight is after.files (subst (λ a. Told a after.files (KeepsLogFront IsTrace flags.log)) is left);
   }
 
   -- how the run ended the call
-  pub works_run : {ending : Ending} {report : List ℕ} → EndsRun jobs work flags rows before after ending report → Works command before after ending report
+  pub works_run : {ending : Ending} {report : List ℕ} → EndsRun IsTrace work flags rows before after ending report → Works command before after ending report
   works_run (step.ran trace report traced wrote logged reported) = record {
     can_end = run.can_end;
     causes = λ part f. absurd (worked_not_failed (kind_of work.ending) part run.worked f);
@@ -175,7 +173,7 @@ module _ (command : Command) (flags : Flags) (rows : List Row) (jobs : List Step
     silent = λ no. refl;
     unwritten = λ h. absurd h;
     out_kept = λ h. absurd (h run.writes_out);
-    files = touched no_memory (λ away. cc) before.files after.files (told_as before.files after.files (KeepsLogFront jobs flags.log) (KeepsOthers flags.log) (others_of_front jobs flags.log) left);
+    files = touched no_memory (λ away. cc) before.files after.files (told_as before.files after.files (KeepsLogFront IsTrace flags.log) (KeepsOthers flags.log) (others_of_front IsTrace flags.log) left);
     told = gave_up no_memory (λ itself. itself_not (kind_of no_memory) itself refl) (λ did. cc) left
         (λ sight is outcome goes. record {
           ends = for_memory;
@@ -191,7 +189,7 @@ module _ (command : Command) (flags : Flags) (rows : List Row) (jobs : List Step
     silent = λ no. refl;
     unwritten = λ h. absurd h;
     out_kept = λ h. absurd (h run.writes_out);
-    files = touched output_failed (λ away. cc) before.files after.files (told_as before.files after.files (KeepsLogFront jobs flags.log) (KeepsOthers flags.log) (others_of_front jobs flags.log) left);
+    files = touched output_failed (λ away. cc) before.files after.files (told_as before.files after.files (KeepsLogFront IsTrace flags.log) (KeepsOthers flags.log) (others_of_front IsTrace flags.log) left);
     told = gave_up output_failed (λ itself. itself_no_fault (failed out) out itself refl) (λ did. cc) left
         (λ sight is outcome goes. let e : outcome ≡ run.there = run.only sight is outcome goes in
         record {
@@ -208,7 +206,7 @@ module _ (command : Command) (flags : Flags) (rows : List Row) (jobs : List Step
     silent = λ no. refl;
     unwritten = λ h. absurd h;
     out_kept = λ h. absurd (h run.writes_out);
-    files = touched (cannot_write log) (λ away. cc) before.files after.files (told_as before.files after.files (KeepsLogFront jobs flags.log) (KeepsOthers flags.log) (others_of_front jobs flags.log) left);
+    files = touched (cannot_write log) (λ away. cc) before.files after.files (told_as before.files after.files (KeepsLogFront IsTrace flags.log) (KeepsOthers flags.log) (others_of_front IsTrace flags.log) left);
     told = gave_up (cannot_write log) (λ itself. itself_no_fault (failed files) files itself refl) (λ did. cc) left
         (λ sight is outcome goes. let e : outcome ≡ run.there = run.only sight is outcome goes in
         record {
@@ -220,14 +218,14 @@ module _ (command : Command) (flags : Flags) (rows : List Row) (jobs : List Step
   }
 
 -- a run behind a load that left the files as they were
-pub ends_behind : (jobs : List StepJob) (work : Work) (flags : Flags) (rows : List Row) (held : Option Contents) (held_faults : ℕ) (mid after : Objects) → Told held mid.files SameFiles
-    → held_faults ≤ mid.file_faults → {ending : Ending} {report : List ℕ} → EndsRun jobs work flags rows mid after ending report
-    → EndsRun jobs work flags rows (record { files = held; out = mid.out; file_faults = held_faults; out_faults = mid.out_faults }) after ending report
-ends_behind jobs work flags rows held held_faults mid after same later (step.ran trace report traced wrote logged reported) =
+pub ends_behind : (IsTrace : Trace → Type 0) (work : Work) (flags : Flags) (rows : List Row) (held : Option Contents) (held_faults : ℕ) (mid after : Objects) → Told held mid.files SameFiles
+    → held_faults ≤ mid.file_faults → {ending : Ending} {report : List ℕ} → EndsRun IsTrace work flags rows mid after ending report
+    → EndsRun IsTrace work flags rows (record { files = held; out = mid.out; file_faults = held_faults; out_faults = mid.out_faults }) after ending report
+ends_behind IsTrace work flags rows held held_faults mid after same later (step.ran trace report traced wrote logged reported) =
     step.ran trace report traced wrote (whole_behind (log_text trace) flags.log held mid.files after.files same logged) reported
-ends_behind jobs work flags rows held held_faults mid after same later (step.no_room front left) =
-    step.no_room front (front_behind jobs flags.log held mid.files after.files same left)
-ends_behind jobs work flags rows held held_faults mid after same later (step.out_failed rose front left) =
-    step.out_failed rose front (front_behind jobs flags.log held mid.files after.files same left)
-ends_behind jobs work flags rows held held_faults mid after same later (step.log_failed log named rose front left) =
-    step.log_failed log named (rose_behind held_faults mid.file_faults after.file_faults later rose) front (front_behind jobs flags.log held mid.files after.files same left)
+ends_behind IsTrace work flags rows held held_faults mid after same later (step.no_room front left) =
+    step.no_room front (front_behind IsTrace flags.log held mid.files after.files same left)
+ends_behind IsTrace work flags rows held held_faults mid after same later (step.out_failed rose front left) =
+    step.out_failed rose front (front_behind IsTrace flags.log held mid.files after.files same left)
+ends_behind IsTrace work flags rows held held_faults mid after same later (step.log_failed log named rose front left) =
+    step.log_failed log named (rose_behind held_faults mid.file_faults after.file_faults later rose) front (front_behind IsTrace flags.log held mid.files after.files same left)

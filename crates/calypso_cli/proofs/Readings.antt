@@ -1,5 +1,5 @@
 -- A text is read as one program, or refused in one way; bytes are one module's.
-use Rattle.std.proofs.Common.{◌≡◌, ℕ, List, Option, Some, None, refl, sym, ap, ◌∙◌}
+use Rattle.std.proofs.Common.{◌≡◌, ℕ, List, Option, Some, None, Result, Ok, Err, refl, sym, ap, ◌∙◌}
 use Rattle.csl_tree.specs.declared.program.Program.{Program}
 use Rattle.csl_reader.specs.declared.refusal.Refusal.{Refusal}
 use Rattle.csl_reader.specs.Readings as reading
@@ -10,10 +10,12 @@ use Rattle.bytecode.specs.Reading.{module_of}
 use Rattle.bytecode.specs.Laws.{OneModulePerBytes}
 use Rattle.bytecode.proofs.Numbers.{some_same}
 use Rattle.bytecode.proofs.Forms.{module_again}
-use Rattle.calypso_cli.specs.Endings.{Ending, refused}
+use Rattle.calypso_cli.specs.Endings.{Ending, refused, events_refused}
+use Rattle.event_world.specs.declared.event.Event.{Event}
+use Rattle.fault_script.specs.Events.{events_of}
 use Rattle.fault_script.specs.Rows.{Row}
 use Rattle.fault_script.specs.Scripts.{script_of}
-use Rattle.calypso_cli.specs.Commands.{IsRefusedText, IsModule, IsNoModule, IsScript, IsNoScript}
+use Rattle.calypso_cli.specs.Commands.{IsRefusedText, IsModule, IsNoModule, IsScript, IsNoScript, IsEvents, IsNoEvents}
 use Rattle.calypso_cli.proofs.Only.{ReadsOnce}
 
 same_program : (p q : Program) (a b : Reading) → a ≡ b → a ≡ reading.accepted p → b ≡ reading.accepted q → p ≡ q
@@ -59,4 +61,21 @@ scripts_once = record {
   one = λ bytes x y h k. same_rows x y (script_of bytes) h k;
   one_ending = λ bytes e f h k. h.1 ∙ sym k.1;
   apart = λ bytes x e h k. no_rows x (script_of bytes) h k.0;
+}
+
+same_events : (one two : List Event) (r : Result (List Event) ℕ) → r ≡ Ok one → r ≡ Ok two → one ≡ two
+same_events one two r e f = cc
+
+same_line : (one two : ℕ) (r : Result (List Event) ℕ) → r ≡ Err one → r ≡ Err two → one ≡ two
+same_line one two r e f = cc
+
+no_events : (list : List Event) (line : ℕ) (r : Result (List Event) ℕ) → r ≡ Ok list → r ≡ Err line → ⊥
+no_events list line r e f = cc
+
+-- bytes list events in one way, or none, and then one line is named
+pub events_once : ReadsOnce IsEvents IsNoEvents
+events_once = record {
+  one = λ bytes x y h k. same_events x y (events_of bytes) h k;
+  one_ending = λ bytes e f h k. h.2 ∙ ap events_refused (same_line h.0 k.0 (events_of bytes) h.1 k.1) ∙ sym k.2;
+  apart = λ bytes x e h k. no_events x k.0 (events_of bytes) h k.1;
 }

@@ -1,7 +1,6 @@
 -- What a run comes to, behind the load of its program or module, its script and its log.
 use Rattle.std.proofs.Common.{◌≡◌, ◌⊎◌, ◌≤◌, ℕ, suc, Bool, true, false, List, [], ◌∷◌, length, Option, Some, None, refl, sym, ap, ◌∙◌, subst, arith, inl, inr}
 use Rattle.std.specs.List.{Contains}
-use Rattle.cal_base.specs.Claims.{StepJob}
 use Rattle.cal_base.specs.Contents.{Contents}
 use Rattle.cal_base.specs.Main.{steps_of}
 use Rattle.csl_tree.specs.declared.program.Program.{Program}
@@ -27,7 +26,7 @@ use Rattle.calypso_cli.proofs.Promises.{loads_program, loads_module, run_can_end
 use Rattle.calypso_cli.proofs.Ran.{text_in, RunsThere}
 
 -- behind the creation of a log, where one is named
-abbrev logged : Option (List ℕ) → Outcome → Outcome
+abbrev pub logged : Option (List ℕ) → Outcome → Outcome
 logged None outcome = outcome
 logged (Some log) outcome = reaching (creates log) outcome
 
@@ -38,30 +37,30 @@ scripted (Some script) outcome = reaching (loads script) outcome
 
 -- ---- logs
 
-creates_logged : (log : Option (List ℕ)) (Next : Outcome → Type 0) (later : Outcome) → Next later → Creates log Next (logged log later)
+pub creates_logged : (log : Option (List ℕ)) (Next : Outcome → Type 0) (later : Outcome) → Next later → Creates log Next (logged log later)
 creates_logged None Next later h = h
 creates_logged (Some log) Next later h = (later, h, refl)
 
-only_logged : (log : Option (List ℕ)) (work : Work) (outcome : Outcome) → Creates log (Does work) outcome → outcome ≡ logged log (finished work)
+pub only_logged : (log : Option (List ℕ)) (work : Work) (outcome : Outcome) → Creates log (Does work) outcome → outcome ≡ logged log (finished work)
 only_logged None work outcome h = h
 only_logged (Some log) work outcome h = h.2 ∙ ap (reaching (creates log)) h.1
 
-logged_ending : (log : Option (List ℕ)) (outcome : Outcome) → (logged log outcome).ending ≡ outcome.ending
+pub logged_ending : (log : Option (List ℕ)) (outcome : Outcome) → (logged log outcome).ending ≡ outcome.ending
 logged_ending None outcome = refl
 logged_ending (Some log) outcome = refl
 
-logged_text : (log : Option (List ℕ)) (outcome : Outcome) → (logged log outcome).text ≡ outcome.text
+pub logged_text : (log : Option (List ℕ)) (outcome : Outcome) → (logged log outcome).text ≡ outcome.text
 logged_text None outcome = refl
 logged_text (Some log) outcome = refl
 
 pub later_in : (first other : Reach) (rest : List Reach) → Contains rest other → Contains (first ∷ rest) other
 later_in first other rest (i, inside, is) = (suc i, omega (arith, inside), is)
 
-logged_reached : (log : Option (List ℕ)) (outcome : Outcome) (name : List ℕ) → log ≡ Some name → Contains (logged log outcome).reached (creates name)
+pub logged_reached : (log : Option (List ℕ)) (outcome : Outcome) (name : List ℕ) → log ≡ Some name → Contains (logged log outcome).reached (creates name)
 logged_reached None outcome name e = absurd (cc)
 logged_reached (Some log) outcome name e = let same : log ≡ name = cc in (0, omega arith, ap creates same)
 
-writes_log : (log : Option (List ℕ)) (IsTrace : Trace → Type 0) (trace : Trace) → IsTrace trace → WritesLog log IsTrace trace (text_in log (log_text trace))
+pub writes_log : (log : Option (List ℕ)) (IsTrace : Trace → Type 0) (trace : Trace) → IsTrace trace → WritesLog log IsTrace trace (text_in log (log_text trace))
 writes_log None IsTrace trace h = refl
 writes_log (Some log) IsTrace trace h = (h, refl)
 
@@ -144,14 +143,14 @@ module _ (flags : Flags) (rows : List Row) {X : Type 0} (work : X → Work) wher
         k.2 ∙ ap (reaching (loads file)) (l.2 ∙ ap (scripted flags.script) (only_logged flags.log (work x) l.0 l.1))
 
     -- the facts that do not depend on what is loaded first
-    pub there_of : (jobs : List StepJob)
+    pub there_of : (IsTrace : Trace → Type 0)
         → ((name : List ℕ) → IsWritten command name → flags.log ≡ Some name) → ((name : List ℕ) → flags.log ≡ Some name → IsWritten command name)
-        → ((sight : Sight) → told ≡ Some sight.files → (trace : Trace) → IsTraceOf jobs trace → Writes command sight trace (text_in flags.log (log_text trace)))
-        → ((sight : Sight) → told ≡ Some sight.files → (trace : Trace) (report : List ℕ) → IsTraceOf jobs trace → ReportsRun flags rows trace report → Reports command sight trace report)
+        → ((sight : Sight) → told ≡ Some sight.files → (trace : Trace) → IsTrace trace → Writes command sight trace (text_in flags.log (log_text trace)))
+        → ((sight : Sight) → told ≡ Some sight.files → (trace : Trace) (report : List ℕ) → IsTrace trace → ReportsRun flags rows trace report → Reports command sight trace report)
         → ((trace : Trace) (report : List ℕ) → ReportsRun flags rows trace report → MayReport command report)
         → WritesOut command → CanEnd command (work x).ending → Worked (work x).ending
-        → RunsThere command flags rows jobs (work x) told
-    there_of jobs written is_written writes reports may_report writes_out can_end worked = record {
+        → RunsThere command flags rows IsTrace (work x) told
+    there_of IsTrace written is_written writes reports may_report writes_out can_end worked = record {
       there = reaching (loads file) (behind x);
       ends = scripted_ending flags.script (logged flags.log (finished (work x))) ∙ logged_ending flags.log (finished (work x));
       text = scripted_text flags.script (logged flags.log (finished (work x))) ∙ logged_text flags.log (finished (work x));
@@ -183,10 +182,10 @@ first_run file flags =
     loads_program (run file flags) file (λ sight p. WithScript sight flags.script (Creates flags.log (Does (runs_program flags p)))) (λ sight outcome h. h) (λ sight outcome h. h) (inl refl) tt
 
 pub run_there : (file : List ℕ) (flags : Flags) (rows : List Row) (told : Option Contents) (p : Program) → Holds told file (ReadsAs (reading.accepted p)) → HoldsRows told flags.script rows
-    → RunsThere (run file flags) flags rows (steps_of (main p flags.fuel)) (runs_program flags p) told
+    → RunsThere (run file flags) flags rows (IsTraceOf (steps_of (main p flags.fuel))) (runs_program flags p) told
 run_there file flags rows told p holds scripts =
     there_of flags rows (runs_program flags) (run file flags) file text_limit (λ bytes p. IsRead bytes (reading.accepted p)) IsRefusal IsRefusedText (first_run file flags) told p holds scripts
-    (steps_of (main p flags.fuel))
+    (IsTraceOf (steps_of (main p flags.fuel)))
     (λ name written. written) (λ name named. named)
     (λ sight is trace traced. writes_log flags.log (HasTrace (run file flags) sight) trace (has_trace sight is trace traced))
     (λ sight is trace report traced h. is_report flags sight (HasTrace (run file flags) sight) rows trace report (holds_script told rows sight is flags.script scripts) (has_trace sight is trace traced) h)
@@ -210,10 +209,10 @@ first_exec file flags =
     loads_module (exec file flags) file (λ sight m. WithScript sight flags.script (Creates flags.log (Does (runs_module flags m)))) (λ sight outcome h. h) (λ sight outcome h. h) (inl refl) tt
 
 pub exec_there : (file : List ℕ) (flags : Flags) (rows : List Row) (told : Option Contents) (m : Module) → Holds told file (Spells m) → HoldsRows told flags.script rows
-    → RunsThere (exec file flags) flags rows (steps_of (machine_main m flags.fuel)) (runs_module flags m) told
+    → RunsThere (exec file flags) flags rows (IsTraceOf (steps_of (machine_main m flags.fuel))) (runs_module flags m) told
 exec_there file flags rows told m holds scripts =
     there_of flags rows (runs_module flags) (exec file flags) file module_limit IsModule IsModuleRefusal IsNoModule (first_exec file flags) told m holds scripts
-    (steps_of (machine_main m flags.fuel))
+    (IsTraceOf (steps_of (machine_main m flags.fuel)))
     (λ name written. written) (λ name named. named)
     (λ sight is trace traced. writes_log flags.log (HasTrace (exec file flags) sight) trace (has_trace sight is trace traced))
     (λ sight is trace report traced h. is_report flags sight (HasTrace (exec file flags) sight) rows trace report (holds_script told rows sight is flags.script scripts) (has_trace sight is trace traced) h)

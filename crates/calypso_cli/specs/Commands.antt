@@ -1,7 +1,7 @@
 -- The tables of commands: which files each loads and writes, which endings it can have, what it comes to, and what it writes and reports. A command that
--- joins, or an option, is a case in each; `NoRowYet` stands where the row of a command is not written yet, and such a command is not served.
+-- joins, or an option, is a case in each.
 use Rattle.std.specs.Prelude.{◌≡◌, ◌⊎◌, ℕ, Bool, true, false, Option, None, Some, List, []}
-use Rattle.std.specs.Prelude.{◌≤◌, length}
+use Rattle.std.specs.Prelude.{◌≤◌, length, Ok, Err}
 use Rattle.cal_base.specs.declared.ends.RunEnd.{RunEnd}
 use Rattle.cal_base.specs.declared.ends.RunEnd.TheVariants.{Done, MainFault, StepFailed}
 use Rattle.cal_base.specs.Main.{Meaning, steps_of}
@@ -17,19 +17,32 @@ use Rattle.bytecode.specs.declared.module.Module.{Module}
 use Rattle.bytecode.specs.Spelling.{spelling, HasSpelling}
 use Rattle.code_verify.specs.Rules.{IsVerified}
 use Rattle.machine_meaning.specs.Meaning.{machine_main, machine_meaning}
+use Rattle.event_world.specs.declared.event.Event.{Event}
+use Rattle.event_world.specs.World.{world}
+use Rattle.fault_script.specs.Events.{events_of}
 use Rattle.fault_script.specs.Rows.{Row}
 use Rattle.fault_script.specs.Scripts.{script_of}
 use Rattle.run_report.specs.Logs.{Trace, log_text}
 use Rattle.run_report.specs.Reports.{report_text}
+use Rattle.calypso_engine.specs.Running.{trace_of}
 use Rattle.calypso_engine.specs.Traces.{IsTraceOf, Tallies, in_order, AreTalliesOf, FollowScript, Agree}
 use Rattle.program_gen.specs.Generated.{generated}
 use Rattle.command_words.specs.Commands.{Flags, Command, check, eval, run, sim, build, exec, gen, selfrun}
 use Rattle.calypso_cli.specs.Endings.{Ending, done, no_command, cannot_load, cannot_write, refused, fault, no_memory, output_failed, script_refused, events_refused, too_long, module_refused}
 use Rattle.calypso_cli.specs.Outcomes.{Sight, Outcome, Work, finished, Loads, Creates, Does}
 
--- a format of this command is not defined yet
-abbrev pub NoRowYet : Type 0
-NoRowYet = ⊥
+-- ---- threads
+
+-- the command runs no worker threads
+abbrev pub WaitsForNobody : Command → Type 0
+WaitsForNobody (check file) = Unit {0}
+WaitsForNobody (eval file) = Unit {0}
+WaitsForNobody (run file flags) = ⊥
+WaitsForNobody (sim file events log) = Unit {0}
+WaitsForNobody (build file into) = Unit {0}
+WaitsForNobody (exec file flags) = ⊥
+WaitsForNobody (gen number size) = Unit {0}
+WaitsForNobody (selfrun number size) = ⊥
 
 -- ---- files
 
@@ -181,6 +194,22 @@ abbrev pub WithScript : Sight → Option (List ℕ) → (Outcome → Type 0) →
 WithScript sight None Next outcome = Next outcome
 WithScript sight (Some file) Next outcome = Loads file script_limit IsScript IsNoScript (λ rows. Next) (sight.files file) outcome
 
+-- the longest list of events, in bytes
+abbrev pub events_limit : ℕ
+events_limit = 1048576
+
+-- the bytes list these events
+abbrev pub IsEvents : List ℕ → List Event → Type 0
+IsEvents bytes list = events_of bytes ≡ Ok list
+
+-- the bytes list no events: a line is no event, and the first such line is named
+abbrev pub IsNoEvents : List ℕ → Ending → Type 0
+IsNoEvents bytes ending = (number : ℕ) × (events_of bytes ≡ Err number) × (ending ≡ events_refused number)
+
+-- what a command comes to that loads a list of events and goes on
+abbrev pub WithEvents : Sight → List ℕ → (Outcome → Type 0) → Outcome → Type 0
+WithEvents sight file Next outcome = Loads file events_limit IsEvents IsNoEvents (λ list. Next) (sight.files file) outcome
+
 -- the file holds the text of this accepted program
 abbrev pub HoldsProgram : Sight → List ℕ → Program → Type 0
 HoldsProgram sight file p = (bytes : List ℕ) × (sight.files file ≡ Some bytes) × (length bytes ≤ text_limit) × IsRead bytes (reading.accepted p)
@@ -193,6 +222,10 @@ HoldsModule sight file m = (bytes : List ℕ) × (sight.files file ≡ Some byte
 abbrev pub HoldsScript : Sight → Option (List ℕ) → List Row → Type 0
 HoldsScript sight None rows = rows ≡ []
 HoldsScript sight (Some file) rows = (bytes : List ℕ) × (sight.files file ≡ Some bytes) × (length bytes ≤ script_limit) × IsScript bytes rows
+
+-- the file lists these events
+abbrev pub HoldsEvents : Sight → List ℕ → List Event → Type 0
+HoldsEvents sight file list = (bytes : List ℕ) × (sight.files file ≡ Some bytes) × (length bytes ≤ events_limit) × IsEvents bytes list
 
 -- ---- work
 
@@ -233,7 +266,8 @@ ComesTo (check file) sight outcome = WithProgram sight file (λ p. Does (check_o
 ComesTo (eval file) sight outcome = WithProgram sight file (λ p. Does (run_of false (meaning p usual_fuel))) outcome
 ComesTo (run file flags) sight outcome =
     WithProgram sight file (λ p. WithScript sight flags.script (Creates flags.log (Does (run_of flags.steps (meaning p flags.fuel))))) outcome
-ComesTo (sim file events log) sight outcome = NoRowYet
+ComesTo (sim file events log) sight outcome =
+    WithProgram sight file (λ p. WithEvents sight events (Creates log (Does (run_of false (meaning p usual_fuel))))) outcome
 ComesTo (build file into) sight outcome = WithProgram sight file (λ p. Creates (Some into) (Does build_of)) outcome
 ComesTo (exec file flags) sight outcome =
     WithModule sight file (λ m. WithScript sight flags.script (Creates flags.log (Does (run_of flags.steps (machine_meaning m flags.fuel))))) outcome
@@ -242,12 +276,17 @@ ComesTo (selfrun number size) sight outcome = FromText (generated number size) (
 
 -- ---- logs, modules and reports
 
+-- the steps of the program over these events, in order: exactly those of its world, so each with a legal and complete history
+pub record IsSimulated (p : Program) (list : List Event) (trace : Trace) : Type 0 where
+  pub is_world : trace ≡ trace_of (world (main p usual_fuel) list).closed
+  pub traced : IsTraceOf (steps_of (main p usual_fuel)) trace
+
 -- the steps that a run of the command opens, faulted one included, each with a legal and complete history
 abbrev pub HasTrace : Command → Sight → Trace → Type 0
 HasTrace (check file) sight trace = trace ≡ []
 HasTrace (eval file) sight trace = trace ≡ []
 HasTrace (run file flags) sight trace = (p : Program) × HoldsProgram sight file p × IsTraceOf (steps_of (main p flags.fuel)) trace
-HasTrace (sim file events log) sight trace = NoRowYet
+HasTrace (sim file events log) sight trace = (p : Program) × (list : List Event) × HoldsProgram sight file p × HoldsEvents sight events list × IsSimulated p list trace
 HasTrace (build file into) sight trace = trace ≡ []
 HasTrace (exec file flags) sight trace = (m : Module) × HoldsModule sight file m × IsTraceOf (steps_of (machine_main m flags.fuel)) trace
 HasTrace (gen number size) sight trace = trace ≡ []

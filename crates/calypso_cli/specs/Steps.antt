@@ -1,10 +1,9 @@
 -- What the steps below the top call promise.
-use Rattle.std.specs.Prelude.{◌≡◌, ◌⊎◌, ◌≤◌, ◌<◌, ℕ, List, [], length, IfSome, IsSomeAnd, None, Some}
+use Rattle.std.specs.Prelude.{◌≡◌, ◌⊎◌, ◌≤◌, ◌<◌, ℕ, false, List, [], length, IfSome, IsSomeAnd, None, Some}
 use Rattle.std.specs.declared.option.Option.{Option}
 use Rattle.std.specs.Io.{StartsWith}
 use Rattle.std.specs.Io.KnownBytes.{Appends}
 use Rattle.cal_base.specs.Causes.{Rose}
-use Rattle.cal_base.specs.Claims.{StepJob}
 use Rattle.cal_base.specs.Contents.{Contents, Told, SameFiles, SameOthers, Empties, KeepsOrEmpties, AppendsPrefix}
 use Rattle.csl_tree.specs.declared.program.Program.{Program}
 use Rattle.csl_grammar.specs.Texts.{text_limit}
@@ -12,15 +11,15 @@ use Rattle.csl_reader.specs.declared.refusal.Refusal.{Refusal}
 use Rattle.csl_reader.specs.Readings as reading
 use Rattle.csl_reader.specs.Readings.{IsRead}
 use Rattle.bytecode.specs.declared.module.Module.{Module}
+use Rattle.event_world.specs.declared.event.Event.{Event}
 use Rattle.fault_script.specs.Rows.{Row}
 use Rattle.run_report.specs.Logs.{Trace, log_text}
-use Rattle.calypso_engine.specs.Traces.{IsTraceOf}
 use Rattle.calypso_engine.specs.declared.error.RunError.{RunError}
 use Rattle.calypso_engine.specs.declared.error.RunError.TheVariants.{OutFailed, FileFailed, NoMemory}
 use Rattle.command_words.specs.Commands.{Flags}
-use Rattle.calypso_cli.specs.Endings.{Ending, done, cannot_load, cannot_write, refused, no_memory, output_failed, script_refused, too_long, module_refused}
+use Rattle.calypso_cli.specs.Endings.{Ending, done, cannot_load, cannot_write, refused, no_memory, output_failed, script_refused, events_refused, too_long, module_refused}
 use Rattle.calypso_cli.specs.Outcomes.{Work}
-use Rattle.calypso_cli.specs.Commands.{IsModule, module_limit, IsScript, IsNoScript, script_limit, IsBuiltOf, ReportsRun}
+use Rattle.calypso_cli.specs.Commands.{IsModule, module_limit, IsScript, IsNoScript, script_limit, IsEvents, events_limit, usual_fuel, IsBuiltOf, ReportsRun}
 use Rattle.calypso_cli.specs.Promise.{Objects}
 
 -- where the files tell it, the file holds bytes of which this is true
@@ -31,6 +30,10 @@ Holds told file Fact = IfSome told (λ contents. IsSomeAnd (contents file) Fact)
 abbrev pub HoldsRows : Option Contents → Option (List ℕ) → List Row → Type 0
 HoldsRows told None rows = rows ≡ []
 HoldsRows told (Some script) rows = Holds told script (λ bytes. (length bytes ≤ script_limit) × IsScript bytes rows)
+
+-- the bytes are no more than those of the longest list of events, and list these
+abbrev pub Lists : List Event → List ℕ → Type 0
+Lists list bytes = (length bytes ≤ events_limit) × IsEvents bytes list
 
 -- the text is no longer than the longest program, and is read so
 abbrev pub ReadsAs : reading.Reading → List ℕ → Type 0
@@ -51,6 +54,10 @@ IsModuleRefusal ending = ending ≡ module_refused
 -- the ending of a refused script
 abbrev pub IsScriptRefusal : Ending → Type 0
 IsScriptRefusal ending = ending ≡ script_refused
+
+-- the ending of refused events
+abbrev pub IsEventsRefusal : Ending → Type 0
+IsEventsRefusal ending = (number : ℕ) × (ending ≡ events_refused number)
 
 -- no ending, and no bytes that are turned away
 abbrev pub NoEnding : Ending → Type 0
@@ -100,16 +107,16 @@ pub data EndsBuild (p : Program) (into : List ℕ) (old new : Option Contents) (
 
 -- ---- runs
 
--- what a log holds where the run gave up: what it held, nothing, or a front of the text of some trace of these steps
-pub data HoldsLogFront (jobs : List StepJob) (was : Option (List ℕ)) : Option (List ℕ) → Type 0 where
-  kept : HoldsLogFront jobs was was
-  emptied : HoldsLogFront jobs was (Some [])
-  front : (trace : Trace) (text : List ℕ) → IsTraceOf jobs trace → StartsWith (log_text trace) text → HoldsLogFront jobs was (Some text)
+-- what a log holds where the run gave up: what it held, nothing, or a front of the text of some such trace
+pub data HoldsLogFront (IsTrace : Trace → Type 0) (was : Option (List ℕ)) : Option (List ℕ) → Type 0 where
+  kept : HoldsLogFront IsTrace was was
+  emptied : HoldsLogFront IsTrace was (Some [])
+  front : (trace : Trace) (text : List ℕ) → IsTrace trace → StartsWith (log_text trace) text → HoldsLogFront IsTrace was (Some text)
 
 -- where a log is named it holds such a front, and each other file what it held
-abbrev pub KeepsLogFront : List StepJob → Option (List ℕ) → Contents → Contents → Type 0
-KeepsLogFront jobs None old new = SameFiles old new
-KeepsLogFront jobs (Some log) old new = HoldsLogFront jobs (old log) (new log) × SameOthers log old new
+abbrev pub KeepsLogFront : (Trace → Type 0) → Option (List ℕ) → Contents → Contents → Type 0
+KeepsLogFront IsTrace None old new = SameFiles old new
+KeepsLogFront IsTrace (Some log) old new = HoldsLogFront IsTrace (old log) (new log) × SameOthers log old new
 
 -- where a log is named it holds no bytes, and each other file what it held
 abbrev pub EmptiesLog : Option (List ℕ) → Contents → Contents → Type 0
@@ -133,12 +140,16 @@ abbrev pub KeepsLog : List ℕ → Option (List ℕ) → Contents → Contents �
 KeepsLog text None old new = SameFiles old new
 KeepsLog text (Some log) old new = HoldsAll log text old new
 
--- how the run of what was loaded, with these steps and this work, ends the call, and what is reported
-pub data EndsRun (jobs : List StepJob) (work : Work) (flags : Flags) (rows : List Row) (old new : Objects) : Ending → List ℕ → Type 0 where
-  ran : (trace : Trace) (report : List ℕ) → IsTraceOf jobs trace → Appends old.out new.out work.text → Told old.files new.files (KeepsLog (log_text trace) flags.log)
-      → ReportsRun flags rows trace report → EndsRun jobs work flags rows old new work.ending report
-  no_room : AppendsPrefix old.out new.out work.text → Told old.files new.files (KeepsLogFront jobs flags.log) → EndsRun jobs work flags rows old new no_memory []
-  out_failed : Rose old.out_faults new.out_faults → AppendsPrefix old.out new.out work.text → Told old.files new.files (KeepsLogFront jobs flags.log)
-      → EndsRun jobs work flags rows old new output_failed []
+-- how the run of what was loaded, with such a trace and this work, ends the call, and what is reported
+pub data EndsRun (IsTrace : Trace → Type 0) (work : Work) (flags : Flags) (rows : List Row) (old new : Objects) : Ending → List ℕ → Type 0 where
+  ran : (trace : Trace) (report : List ℕ) → IsTrace trace → Appends old.out new.out work.text → Told old.files new.files (KeepsLog (log_text trace) flags.log)
+      → ReportsRun flags rows trace report → EndsRun IsTrace work flags rows old new work.ending report
+  no_room : AppendsPrefix old.out new.out work.text → Told old.files new.files (KeepsLogFront IsTrace flags.log) → EndsRun IsTrace work flags rows old new no_memory []
+  out_failed : Rose old.out_faults new.out_faults → AppendsPrefix old.out new.out work.text → Told old.files new.files (KeepsLogFront IsTrace flags.log)
+      → EndsRun IsTrace work flags rows old new output_failed []
   log_failed : (log : List ℕ) → flags.log ≡ Some log → Rose old.file_faults new.file_faults → AppendsPrefix old.out new.out work.text
-      → Told old.files new.files (KeepsLogFront jobs flags.log) → EndsRun jobs work flags rows old new (cannot_write log) []
+      → Told old.files new.files (KeepsLogFront IsTrace flags.log) → EndsRun IsTrace work flags rows old new (cannot_write log) []
+
+-- a simulation as a run: with a log, and with no script, no report and no steps shown
+abbrev pub simulation : Option (List ℕ) → Flags
+simulation log = record { workers = 0; fuel = usual_fuel; frames = 64; script = None; log = log; report = false; steps = false }

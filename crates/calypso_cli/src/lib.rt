@@ -10,10 +10,11 @@ mod execute;
 mod generated;
 pub mod laws;
 mod load;
+mod log;
 mod no_threads;
 mod run;
 mod selfrun;
-mod served;
+mod sim;
 mod top;
 
 pub use command_words::{Command, Flags, WordsError, read_words};

@@ -1,13 +1,14 @@
-//! Programs, modules and scripts in files.
+//! Programs, modules, scripts and lists of events in files.
 
 ghost use Rattle.std.specs.Prelude.{◌≡◌, ◌⊎◌, ◌≤◌, ℕ, List, length, Some, IfOk, IfErr};
 ghost use Rattle.cal_base.specs.Contents.{Told, SameFiles, Loads};
 ghost use Rattle.csl_grammar.specs.Texts.{text_limit};
+ghost use Rattle.event_world.specs.Law.{Each, IsOfWorker};
 ghost use Rattle.csl_reader.specs.Readings as reading;
-ghost use Rattle.calypso_cli.specs.Commands.{IsRefusedText, IsModule, IsNoModule, module_limit, IsScript, IsNoScript, script_limit};
+ghost use Rattle.calypso_cli.specs.Commands.{IsRefusedText, IsModule, IsNoModule, module_limit, IsScript, IsNoScript, script_limit, IsNoEvents, events_limit};
 ghost use Rattle.command_words.specs.Seen.{flags_seen};
 ghost use Rattle.calypso_cli.specs.Endings.{no_memory};
-ghost use Rattle.calypso_cli.specs.Steps.{Holds, HoldsRows, ReadsAs, IsRefusal, Spells, IsModuleRefusal, IsScriptRefusal, NoEnding, TurnsNoneAway, StopsLoad, StopsScript};
+ghost use Rattle.calypso_cli.specs.Steps.{Holds, HoldsRows, ReadsAs, IsRefusal, Spells, IsModuleRefusal, IsScriptRefusal, Lists, IsEventsRefusal, NoEnding, TurnsNoneAway, StopsLoad, StopsScript};
 ghost use Rattle.calypso_cli.specs.Seen.{ending_seen};
 
 use crate::Ending;
@@ -16,7 +17,7 @@ use cal_base::{Files, LoadError};
 use code_verify::{Verified, VerifyError, verify};
 use command_words::Flags;
 use csl_reader::{ReadError, read_program};
-use fault_script::{Script, ScriptError, read_script};
+use fault_script::{Event, EventsError, Script, ScriptError, read_events, read_script};
 use std::alloc::Global;
 use type_check::checked::Checked;
 
@@ -28,6 +29,9 @@ const MODULE_LIMIT: usize = 16_777_216;
 
 /// The longest script, in bytes.
 const SCRIPT_LIMIT: usize = 1_048_576;
+
+/// The longest list of events, in bytes.
+const EVENTS_LIMIT: usize = 1_048_576;
 
 /// The bytes of a file, which are to be no more than the limit, or how the call ends.
 fn load_bytes<'a, F: Files>(
@@ -151,5 +155,29 @@ pub(crate) fn load_script<'a, F: Files>(
     match &flags.script {
         Some(file) => load_rows(alloc, files, file.as_str()),
         None => Ok(Script::none(alloc)),
+    }
+}
+
+/// The events that a file lists, or how the call ends.
+pub(crate) fn load_events<'a, F: Files>(
+    alloc: Global,
+    files: &mut F,
+    file: &'a str,
+) -> Result<Vec<Event>, Ending<'a>>
+    requires { F.may_load file.now }
+    ensures listed { IfOk result (λ list. Holds (F.holds files.old) file.now (Lists list.items)) }
+    ensures workers { IfOk result (λ list. Each IsOfWorker list.items) }
+    ensures stops { IfErr result (λ ending. StopsLoad (F.holds files.old) file.now events_limit IsEventsRefusal IsNoEvents (F.faults files.old) (F.faults files.new) (ending_seen ending)) }
+    ensures files { Told (F.holds files.old) (F.holds files.new) SameFiles }
+    ensures later { F.faults files.old ≤ F.faults files.new }
+{
+    let bytes = match load_bytes(alloc, files, file, EVENTS_LIMIT) {
+        Ok(bytes) => bytes,
+        Err(ending) => return Err(ending),
+    };
+    match read_events(alloc, &bytes) {
+        Ok(list) => Ok(list),
+        Err(EventsError::Refused { line }) => Err(Ending::EventsRefused(line)),
+        Err(EventsError::NoMemory) => Err(Ending::NoMemory),
     }
 }

@@ -1,9 +1,8 @@
 //! The commands that run no worker threads.
 
-ghost use Rattle.std.specs.Prelude.{◌≡◌, ◌≤◌, true, [], Some};
+ghost use Rattle.std.specs.Prelude.{◌≤◌, [], Some};
 ghost use Rattle.command_words.specs.Seen.{command_seen};
-ghost use Rattle.calypso_cli.specs.Served as serving;
-ghost use Rattle.calypso_cli.specs.Served.{served, WaitsForNobody};
+ghost use Rattle.calypso_cli.specs.Commands.{WaitsForNobody};
 ghost use Rattle.calypso_cli.specs.Promise.{objects_of, MayUse, MayDo, Works, KeepsPromise};
 ghost use Rattle.calypso_cli.specs.Seen.{ending_seen};
 
@@ -13,12 +12,13 @@ use crate::check::check_file;
 use crate::ending::conclude;
 use crate::eval::eval_file;
 use crate::generated::write_generated;
-use crate::served::is_served;
+use crate::log::log_name;
+use crate::sim::sim_file;
 use cal_base::{Files, Sink};
 use command_words::Command;
 use std::alloc::Global;
 
-/// Does what a served command asks for that runs no worker threads.
+/// Does what a command asks for that runs no worker threads.
 fn carry_out<'a, F: Files, S: Sink>(
     alloc: Global,
     command: &'a Command,
@@ -26,7 +26,6 @@ fn carry_out<'a, F: Files, S: Sink>(
     out: &mut S,
 ) -> Ending<'a>
     requires waits { WaitsForNobody (command_seen command.now) }
-    requires is_served { serving.is_served (command_seen command.now) ≡ true }
     requires may_use { MayUse F.may_load F.may_write (command_seen command.now) }
     ensures works { Works (command_seen command.now)
         (objects_of (F.holds files.old) (S.written out.old) (F.faults files.old) (S.faults out.old))
@@ -38,6 +37,16 @@ fn carry_out<'a, F: Files, S: Sink>(
     match command {
         Command::Check { file } => check_file(alloc, file.as_str(), files, out),
         Command::Eval { file } => eval_file(alloc, file.as_str(), files, out),
+        Command::Sim { file, events, log } => {
+            sim_file(
+                alloc,
+                file.as_str(),
+                events.as_str(),
+                log_name(log),
+                files,
+                out,
+            )
+        }
         Command::Build { file, module } => {
             build_file(alloc, file.as_str(), module.as_str(), files)
         }
@@ -56,8 +65,8 @@ pub fn plain<F: Files, S: Sink, E: Sink>(
     err: &mut E,
 ) -> u8
     requires waits { WaitsForNobody (command_seen command.now) }
-    requires may_use { MayDo F.may_load F.may_write (served (Some (command_seen command.now))) }
-    ensures { KeepsPromise (served (Some (command_seen command.now)))
+    requires may_use { MayDo F.may_load F.may_write (Some (command_seen command.now)) }
+    ensures { KeepsPromise (Some (command_seen command.now))
         (record {
           objects = objects_of (F.holds files.old) (S.written out.old) (F.faults files.old) (S.faults out.old);
           err = E.written err.old;
@@ -70,9 +79,6 @@ pub fn plain<F: Files, S: Sink, E: Sink>(
         })
         result }
 {
-    if !is_served(command) {
-        return conclude(Ending::NoCommand, err);
-    }
     let ending = carry_out(alloc, command, files, out);
     conclude(ending, err)
 }

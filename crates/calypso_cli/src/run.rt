@@ -3,6 +3,7 @@
 ghost use Rattle.std.specs.Prelude.{◌≡◌, ◌≤◌, List, ℕ, Some};
 ghost use Rattle.cal_base.specs.Main.{steps_of};
 ghost use Rattle.csl_meaning.specs.Meaning.{main, meaning};
+ghost use Rattle.calypso_engine.specs.Traces.{IsTraceOf};
 ghost use Rattle.command_words.specs.Commands.{run};
 ghost use Rattle.command_words.specs.Seen.{flags_seen};
 ghost use Rattle.calypso_cli.specs.Commands.{IsLoaded, IsWritten, run_of};
@@ -35,7 +36,7 @@ fn run_compiled<'a, R: Threads + Wait + Sync, F: Files, S: Sink, G: Gate>(
     gate: &G,
 ) -> Ended<'a>
     requires { (name : List ℕ) → (flags_seen flags.now).log ≡ Some name → F.may_write name }
-    ensures ends { EndsRun (steps_of (main program.now flags.now.fuel)) (run_of flags.now.steps (meaning program.now flags.now.fuel)) (flags_seen flags.now) script.now
+    ensures ends { EndsRun (IsTraceOf (steps_of (main program.now flags.now.fuel))) (run_of flags.now.steps (meaning program.now flags.now.fuel)) (flags_seen flags.now) script.now
         (objects_of (F.holds files.old) (S.written out.old) (F.faults files.old) (S.faults out.old))
         (objects_of (F.holds files.new) (S.written out.new) (F.faults files.new) (S.faults out.new))
         (ending_seen result.ending) (report_seen result.report) }

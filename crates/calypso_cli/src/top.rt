@@ -1,10 +1,9 @@
 //! The top call: all that the program does.
 
-ghost use Rattle.std.specs.Prelude.{◌≡◌, ◌≤◌, true, [], map, string_bytes, Some};
+ghost use Rattle.std.specs.Prelude.{◌≡◌, ◌≤◌, [], map, string_bytes, Some};
 ghost use Rattle.command_words.specs.Words.{command_of};
 ghost use Rattle.command_words.specs.Seen.{command_seen};
-ghost use Rattle.calypso_cli.specs.Served as serving;
-ghost use Rattle.calypso_cli.specs.Served.{served, WaitsForNobody};
+ghost use Rattle.calypso_cli.specs.Commands.{WaitsForNobody};
 ghost use Rattle.calypso_cli.specs.Promise.{objects_of, Gets, MayUse, MayDo, Works, KeepsPromise};
 ghost use Rattle.calypso_cli.specs.Seen.{ending_seen, report_seen};
 ghost use Rattle.calypso_cli.specs.Endings.{no_memory, status_of, err_text};
@@ -15,7 +14,6 @@ use crate::exec::exec_file;
 use crate::no_threads::plain;
 use crate::run::run_file;
 use crate::selfrun::run_generated;
-use crate::served::is_served;
 use cal_base::{Files, Gate, Sink};
 use command_words::{Command, WordsError, read_words};
 use std::alloc::Global;
@@ -31,7 +29,7 @@ pub fn out_of_memory<E: Sink>(err: &mut E) -> u8
     conclude(Ending::NoMemory, err)
 }
 
-/// Does what a served command asks for that is to run worker threads.
+/// Does what a command asks for that is to run worker threads.
 fn carry_out<'a, R: Threads + Wait + Sync, F: Files, S: Sink, G: Gate>(
     rt: &R,
     alloc: Global,
@@ -41,7 +39,6 @@ fn carry_out<'a, R: Threads + Wait + Sync, F: Files, S: Sink, G: Gate>(
     gate: &G,
 ) -> Ended<'a>
     requires waits { WaitsForNobody (command_seen command.now) → ⊥ }
-    requires is_served { serving.is_served (command_seen command.now) ≡ true }
     requires may_use { MayUse F.may_load F.may_write (command_seen command.now) }
     ensures works { Works (command_seen command.now)
         (objects_of (F.holds files.old) (S.written out.old) (F.faults files.old) (S.faults out.old))
@@ -73,8 +70,8 @@ fn with_threads<R: Threads + Wait + Sync, F: Files, S: Sink, E: Sink, G: Gate>(
     gate: &G,
 ) -> u8
     requires waits { WaitsForNobody (command_seen command.now) → ⊥ }
-    requires may_use { MayDo F.may_load F.may_write (served (Some (command_seen command.now))) }
-    ensures { KeepsPromise (served (Some (command_seen command.now)))
+    requires may_use { MayDo F.may_load F.may_write (Some (command_seen command.now)) }
+    ensures { KeepsPromise (Some (command_seen command.now))
         (record {
           objects = objects_of (F.holds files.old) (S.written out.old) (F.faults files.old) (S.faults out.old);
           err = E.written err.old;
@@ -87,9 +84,6 @@ fn with_threads<R: Threads + Wait + Sync, F: Files, S: Sink, E: Sink, G: Gate>(
         })
         result }
 {
-    if !is_served(command) {
-        return conclude(Ending::NoCommand, err);
-    }
     let ended = carry_out(rt, alloc, command, files, out, gate);
     conclude_run(ended, err)
 }
@@ -104,8 +98,8 @@ fn does_command<R: Threads + Wait + Sync, F: Files, S: Sink, E: Sink, G: Gate>(
     err: &mut E,
     gate: &G,
 ) -> u8
-    requires { MayDo F.may_load F.may_write (served (Some (command_seen command.now))) }
-    ensures { KeepsPromise (served (Some (command_seen command.now)))
+    requires { MayDo F.may_load F.may_write (Some (command_seen command.now)) }
+    ensures { KeepsPromise (Some (command_seen command.now))
         (record {
           objects = objects_of (F.holds files.old) (S.written out.old) (F.faults files.old) (S.faults out.old);
           err = E.written err.old;
@@ -132,8 +126,8 @@ fn does_command<R: Threads + Wait + Sync, F: Files, S: Sink, E: Sink, G: Gate>(
 
 /// Does what the words of the command line ask for, and answers the status of the process.
 ///
-/// The words come without the program's own name. The commands are told in `docs/RUNTIME.md`, with those that are served today, and what
-/// is promised of each in `docs/PROMISES.md`.
+/// The words come without the program's own name. The commands are told in `docs/RUNTIME.md`, and what is promised of each in
+/// `docs/PROMISES.md`.
 pub fn calypso<R: Threads + Wait + Sync, F: Files, S: Sink, E: Sink, G: Gate>(
     rt: &R,
     alloc: Global,
@@ -143,8 +137,8 @@ pub fn calypso<R: Threads + Wait + Sync, F: Files, S: Sink, E: Sink, G: Gate>(
     err: &mut E,
     gate: &G,
 ) -> u8
-    requires { MayDo F.may_load F.may_write (served (command_of (map string_bytes words.now))) }
-    ensures { KeepsPromise (served (command_of (map string_bytes words.now)))
+    requires { MayDo F.may_load F.may_write (command_of (map string_bytes words.now)) }
+    ensures { KeepsPromise (command_of (map string_bytes words.now))
         (record {
           objects = objects_of (F.holds files.old) (S.written out.old) (F.faults files.old) (S.faults out.old);
           err = E.written err.old;

@@ -1,6 +1,7 @@
 use Rattle.std.proofs.Common.{◌≡◌, refl, arith, inl, inr, sym, ap, ◌∙◌}
 use Rattle.cal_base.specs.Main.{steps_of}
 use Rattle.machine_meaning.specs.Meaning.{machine_main}
+use Rattle.calypso_engine.specs.Traces.{IsTraceOf}
 use Rattle.calypso_cli.specs.Commands.{IsModule, IsNoModule, module_limit}
 use Rattle.calypso_cli.specs.Steps.{IsModuleRefusal}
 use Rattle.cal_base.specs.Contents.{SameFiles}
@@ -32,12 +33,12 @@ pub returns-in-Ok-load_script-clause-works : goal.returns-in-Ok-load_script-clau
 returns-in-Ok-load_script-clause-works g c =
     let same = told_then (g.F.Files.holds c.args.files.now) (g.F.Files.holds c.load_module.new.files) (g.F.Files.holds c.load_script.new.files) SameFiles SameFiles SameFiles
     c.load_module.ensures.files c.load_script.ensures.files same_same in
-    works_run (exec c.args.file.now (flags_seen c.args.flags.now)) (flags_seen c.args.flags.now) c.in-Ok-load_script.script (steps_of (machine_main c.in-Ok.code c.args.flags.now.fuel)) (runs_module (flags_seen c.args.flags.now) c.in-Ok.code)
+    works_run (exec c.args.file.now (flags_seen c.args.flags.now)) (flags_seen c.args.flags.now) c.in-Ok-load_script.script (IsTraceOf (steps_of (machine_main c.in-Ok.code c.args.flags.now.fuel))) (runs_module (flags_seen c.args.flags.now) c.in-Ok.code)
     (objects_of (g.F.Files.holds c.args.files.now) (g.S.Sink.written c.args.out.now) (g.F.Files.faults c.args.files.now) (g.S.Sink.faults c.args.out.now))
     (objects_of (g.F.Files.holds c.execute.new.files) (g.S.Sink.written c.execute.new.out) (g.F.Files.faults c.execute.new.files) (g.S.Sink.faults c.execute.new.out))
     (exec_there c.args.file.now (flags_seen c.args.flags.now) c.in-Ok-load_script.script (g.F.Files.holds c.args.files.now) c.in-Ok.code c.in-Ok.ensures.loaded
     (rows_behind (g.F.Files.holds c.args.files.now) (g.F.Files.holds c.load_module.new.files) (flags_seen c.args.flags.now).script c.in-Ok-load_script.script c.load_module.ensures.files c.in-Ok-load_script.ensures.rows))
-    (ends_behind (steps_of (machine_main c.in-Ok.code c.args.flags.now.fuel)) (runs_module (flags_seen c.args.flags.now) c.in-Ok.code) (flags_seen c.args.flags.now) c.in-Ok-load_script.script (g.F.Files.holds c.args.files.now) (g.F.Files.faults c.args.files.now)
+    (ends_behind (IsTraceOf (steps_of (machine_main c.in-Ok.code c.args.flags.now.fuel))) (runs_module (flags_seen c.args.flags.now) c.in-Ok.code) (flags_seen c.args.flags.now) c.in-Ok-load_script.script (g.F.Files.holds c.args.files.now) (g.F.Files.faults c.args.files.now)
     (objects_of (g.F.Files.holds c.load_script.new.files) (g.S.Sink.written c.args.out.now) (g.F.Files.faults c.load_script.new.files) (g.S.Sink.faults c.args.out.now))
     (objects_of (g.F.Files.holds c.execute.new.files) (g.S.Sink.written c.execute.new.out) (g.F.Files.faults c.execute.new.files) (g.S.Sink.faults c.execute.new.out))
     same (omega (arith, c.load_module.ensures.later, c.load_script.ensures.later)) c.execute.ensures.ends)

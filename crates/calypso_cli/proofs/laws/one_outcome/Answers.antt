@@ -9,12 +9,12 @@ use Rattle.machine_meaning.specs.Meaning.{machine_meaning}
 use Rattle.command_words.specs.Commands.{Flags, check, eval, run, sim, build, exec, gen, selfrun}
 use Rattle.csl_grammar.specs.Texts.{text_limit}
 use Rattle.calypso_cli.specs.Outcomes.{Sight, Outcome, Work, Does, Creates}
-use Rattle.calypso_cli.specs.Commands.{IsRefusedText, IsModule, IsNoModule, module_limit, IsScript, IsNoScript, script_limit, WithScript, run_of, check_of, build_of, gen_of, usual_fuel}
+use Rattle.calypso_cli.specs.Commands.{IsRefusedText, IsModule, IsNoModule, module_limit, IsScript, IsNoScript, script_limit, WithScript, IsEvents, IsNoEvents, events_limit, WithEvents, run_of, check_of, build_of, gen_of, usual_fuel}
 use Rattle.calypso_cli.specs.Laws.{ComesToOne}
 use Rattle.program_gen.specs.Generated.{generated}
 use Rattle.calypso_cli.proofs.Only.{one_load, one_create}
 use Rattle.calypso_cli.proofs.Texts.{one_text}
-use Rattle.calypso_cli.proofs.Readings.{programs_once, modules_once, scripts_once}
+use Rattle.calypso_cli.proofs.Readings.{programs_once, modules_once, scripts_once, events_once}
 use Rattle.calypso_cli.proofs.laws.one_outcome.Goals as goal
 
 -- work comes to one outcome
@@ -39,7 +39,11 @@ comes_to_one one_module (run file flags) sight one two h k =
     one_load file text_limit (λ bytes p. IsRead bytes (reading.accepted p)) IsRefusedText
     (λ p. WithScript sight flags.script (Creates flags.log (Does (run_of flags.steps (meaning p flags.fuel))))) (programs_once read_one_way)
     (λ p a b. one_run sight flags (meaning p flags.fuel) flags.script a b) h k
-comes_to_one one_module (sim file events log) sight one two h k = absurd h
+comes_to_one one_module (sim file events log) sight one two h k =
+    one_load file text_limit (λ bytes p. IsRead bytes (reading.accepted p)) IsRefusedText
+    (λ p. WithEvents sight events (Creates log (Does (run_of false (meaning p usual_fuel))))) (programs_once read_one_way)
+    (λ p a b g l. one_load events events_limit IsEvents IsNoEvents (λ list. Creates log (Does (run_of false (meaning p usual_fuel)))) events_once
+    (λ list. one_create log (Does (run_of false (meaning p usual_fuel))) (one_work (run_of false (meaning p usual_fuel)))) g l) h k
 comes_to_one one_module (build file into) sight one two h k =
     one_load file text_limit (λ bytes p. IsRead bytes (reading.accepted p)) IsRefusedText (λ p. Creates (Some into) (Does build_of)) (programs_once read_one_way)
     (λ p. one_create (Some into) (Does build_of) (one_work build_of)) h k

@@ -1,17 +1,13 @@
-use Rattle.std.proofs.Common.{sym, Some}
 use Rattle.command_words.specs.Seen.{command_seen}
-use Rattle.calypso_cli.specs.Served.{served}
 use Rattle.calypso_cli.specs.Seen.{ending_seen}
-use Rattle.calypso_cli.proofs.Promises.{not_given, promise_of_none, promise_of_served, counts_stay}
+use Rattle.calypso_cli.proofs.Promises.{may_use, promise_of_plain, counts_stay}
 use Rattle.calypso_cli.proofs.no_threads.plain.Goals as goal
 
-pub returns-then-not-is_served : goal.returns-then-not-is_served
-returns-then-not-is_served g c =
-    promise_of_none (served (Some (command_seen c.args.command.now))) _ _ _ _ _ _ (not_given (command_seen c.args.command.now) (sym c.if-not-is_served.ensures))
-    c.conclude.ensures.line c.conclude.ensures.status c.conclude.ensures.later
+pub carry_out-requires-clause-may_use : goal.carry_out-requires-clause-may_use
+carry_out-requires-clause-may_use g c κs within = may_use _ _ (command_seen c.args.command.now) c.requires.may_use
 
 pub returns : goal.returns
 returns g c =
-    promise_of_served _ _ _ (command_seen c.args.command.now) (ending_seen c.carry_out-ending.result) (sym c.if-not-is_served.ensures)
-    c.carry_out-ending.ensures.works c.conclude-2.ensures.line c.conclude-2.ensures.status
-    (counts_stay _ _ c.carry_out-ending.ensures.files_later c.carry_out-ending.ensures.out_later c.conclude-2.ensures.later)
+    promise_of_plain _ _ _ (command_seen c.args.command.now) (ending_seen c.carry_out-ending.result)
+    c.carry_out-ending.ensures.works c.conclude.ensures.line c.conclude.ensures.status
+    (counts_stay _ _ c.carry_out-ending.ensures.files_later c.carry_out-ending.ensures.out_later c.conclude.ensures.later)

@@ -4,6 +4,7 @@ use Rattle.csl_meaning.specs.Meaning.{main}
 use Rattle.csl_grammar.specs.Texts.{text_limit}
 use Rattle.csl_reader.specs.Readings as reading
 use Rattle.csl_reader.specs.Readings.{IsRead}
+use Rattle.calypso_engine.specs.Traces.{IsTraceOf}
 use Rattle.calypso_cli.specs.Commands.{IsRefusedText}
 use Rattle.calypso_cli.specs.Steps.{IsRefusal}
 use Rattle.cal_base.specs.Contents.{SameFiles}
@@ -35,12 +36,12 @@ pub returns-in-Ok-load_script-clause-works : goal.returns-in-Ok-load_script-clau
 returns-in-Ok-load_script-clause-works g c =
     let same = told_then (g.F.Files.holds c.args.files.now) (g.F.Files.holds c.load_program.new.files) (g.F.Files.holds c.load_script.new.files) SameFiles SameFiles SameFiles
     c.load_program.ensures.files c.load_script.ensures.files same_same in
-    works_run (run c.args.file.now (flags_seen c.args.flags.now)) (flags_seen c.args.flags.now) c.in-Ok-load_script.script (steps_of (main c.in-Ok.program c.args.flags.now.fuel)) (runs_program (flags_seen c.args.flags.now) c.in-Ok.program)
+    works_run (run c.args.file.now (flags_seen c.args.flags.now)) (flags_seen c.args.flags.now) c.in-Ok-load_script.script (IsTraceOf (steps_of (main c.in-Ok.program c.args.flags.now.fuel))) (runs_program (flags_seen c.args.flags.now) c.in-Ok.program)
     (objects_of (g.F.Files.holds c.args.files.now) (g.S.Sink.written c.args.out.now) (g.F.Files.faults c.args.files.now) (g.S.Sink.faults c.args.out.now))
     (objects_of (g.F.Files.holds c.run_compiled.new.files) (g.S.Sink.written c.run_compiled.new.out) (g.F.Files.faults c.run_compiled.new.files) (g.S.Sink.faults c.run_compiled.new.out))
     (run_there c.args.file.now (flags_seen c.args.flags.now) c.in-Ok-load_script.script (g.F.Files.holds c.args.files.now) c.in-Ok.program c.in-Ok.ensures.loaded
     (rows_behind (g.F.Files.holds c.args.files.now) (g.F.Files.holds c.load_program.new.files) (flags_seen c.args.flags.now).script c.in-Ok-load_script.script c.load_program.ensures.files c.in-Ok-load_script.ensures.rows))
-    (ends_behind (steps_of (main c.in-Ok.program c.args.flags.now.fuel)) (runs_program (flags_seen c.args.flags.now) c.in-Ok.program) (flags_seen c.args.flags.now) c.in-Ok-load_script.script (g.F.Files.holds c.args.files.now) (g.F.Files.faults c.args.files.now)
+    (ends_behind (IsTraceOf (steps_of (main c.in-Ok.program c.args.flags.now.fuel))) (runs_program (flags_seen c.args.flags.now) c.in-Ok.program) (flags_seen c.args.flags.now) c.in-Ok-load_script.script (g.F.Files.holds c.args.files.now) (g.F.Files.faults c.args.files.now)
     (objects_of (g.F.Files.holds c.load_script.new.files) (g.S.Sink.written c.args.out.now) (g.F.Files.faults c.load_script.new.files) (g.S.Sink.faults c.args.out.now))
     (objects_of (g.F.Files.holds c.run_compiled.new.files) (g.S.Sink.written c.run_compiled.new.out) (g.F.Files.faults c.run_compiled.new.files) (g.S.Sink.faults c.run_compiled.new.out))
     same (omega (arith, c.load_program.ensures.later, c.load_script.ensures.later)) c.run_compiled.ensures.ends)
