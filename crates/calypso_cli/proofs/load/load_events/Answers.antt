@@ -17,7 +17,7 @@ returns-in-Ok-read_events-clause-listed g c =
     (c.in-Ok.ensures.few, subst (λ bytes. events_of bytes ≡ Ok c.in-Ok-read_events.list.items) c.deref.ensures.value c.in-Ok-read_events.ensures.events)
 
 pub returns-in-Ok-read_events-clause-workers : goal.returns-in-Ok-read_events-clause-workers
-returns-in-Ok-read_events-clause-workers g c = listed_workers _ c.in-Ok-read_events.list.items c.in-Ok-read_events.ensures.events
+returns-in-Ok-read_events-clause-workers g c = listed_workers c.deref.result.now c.in-Ok-read_events.list.items c.in-Ok-read_events.ensures.events
 
 pub returns-in-Err-Refused-clause-stops : goal.returns-in-Err-Refused-clause-stops
 returns-in-Err-Refused-clause-stops g c =

@@ -15,7 +15,7 @@ returns-in-Err-clause-works g c =
     c.load_program.ensures.files refl c.in-Err.ensures.stops
 
 pub simulate-requires-clause-workers : goal.simulate-requires-clause-workers
-simulate-requires-clause-workers g c κs within = subst (Each IsOfWorker) (sym c.deref.ensures.value) c.in-Ok-load_events.ensures.workers
+simulate-requires-clause-workers g c = subst (Each IsOfWorker) (sym c.deref.ensures.value) c.in-Ok-load_events.ensures.workers
 
 pub returns-in-Ok-load_events-clause-works : goal.returns-in-Ok-load_events-clause-works
 returns-in-Ok-load_events-clause-works g c =

@@ -1,11 +1,8 @@
 use Rattle.std.proofs.Common.{refl}
 use Rattle.command_words.specs.Seen.{command_seen}
 use Rattle.calypso_cli.specs.Seen.{ending_seen, report_seen}
-use Rattle.calypso_cli.proofs.Promises.{may_use, promise_of_run, counts_stay}
+use Rattle.calypso_cli.proofs.Promises.{promise_of_run, counts_stay}
 use Rattle.calypso_cli.proofs.top.with_threads.Goals as goal
-
-pub carry_out-requires-clause-may_use : goal.carry_out-requires-clause-may_use
-carry_out-requires-clause-may_use g c κs within = may_use _ _ (command_seen c.args.command.now) c.requires.may_use
 
 pub returns : goal.returns
 returns g c =
