@@ -11,7 +11,7 @@ use Rattle.cal_base.specs.History.{History}
 use Rattle.cal_base.specs.Claims.{StepJob, claimed}
 use Rattle.bytecode.specs.declared.module.Module.{Module}
 use Rattle.machine_meaning.specs.Meaning.{module_memory}
-use Rattle.shared_pages.specs.Cached.{Fits}
+use Rattle.shared_pages.specs.Cached.{Cached, Fits}
 use Rattle.fault_script.specs.Rows.{Row}
 use Rattle.step_laws.specs.Caller.{pair_of}
 use Rattle.worker_gate.specs.Executing.{KeptPages}
@@ -55,3 +55,7 @@ pub record Executes (before after : WorkerState) (image : Paged) (m : Module) : 
 abbrev pub TookTurn : StepJob → History → Bool → History → Type 0
 TookTurn job before true later = (k : ℕ) × (claimed job before CALLER ≡ Work k) × (later ≡ before ++ pair_of job k)
 TookTurn job before false later = (claimed job before CALLER ≡ AllDone) × (later ≡ before)
+
+-- the cache of a worker: for how many pages there is room, those that it keeps, and how many it fetched
+abbrev pub kept_by : WorkerState → Cached
+kept_by worker = record { size = worker.kept.size; kept = worker.kept.pages; fetched = worker.tally.pages }

@@ -1,15 +1,17 @@
 //! What executes routines: a machine over pages that it fetches and a buffer for what a routine writes.
 
-ghost use Rattle.std.specs.Prelude.{◌≡◌, ◌<◌, ◌≤◌, ◌^◌, [], IfOk, Some, slice_get};
+ghost use Rattle.std.specs.Prelude.{◌≡◌, ◌<◌, ◌≤◌, ◌^◌, ◌*◌, [], IfOk, Some, length, slice_get};
 ghost use Rattle.std.specs.FinMap.{empty};
 ghost use Rattle.cal_base.specs.Answers.{answer_by};
 ghost use Rattle.cal_base.specs.Claims.{size_of};
 ghost use Rattle.cal_base.specs.Memory.{kinds_of};
+ghost use Rattle.cal_base.specs.Pages.{page_size, version_of};
 ghost use Rattle.cal_base.specs.Updates.{IsBelow, IsNextFrom};
 ghost use Rattle.machine_meaning.specs.Meaning.{module_memory};
+ghost use Rattle.shared_pages.specs.Cached.{Serves};
 ghost use Rattle.write_buffer.specs.Buffered.{written_of};
 ghost use Rattle.write_buffer.specs.Joined.{Joined};
-ghost use Rattle.worker_gate.specs.Executing.{MayExecute, HoldsFrames};
+ghost use Rattle.worker_gate.specs.Executing.{MayExecute, HoldsFrames, cache_of, Asks};
 
 use crate::job::Job;
 use crate::place::place_of;
@@ -82,6 +84,22 @@ fn run_over<N: JobName>(
     )
 }
 
+/// The cache keeps page p of the image, beside a buffer in the same pool.
+fn fetch_over(
+    pool: &mut FramePool,
+    cache: &mut PageCache,
+    buffer: &WriteBuffer,
+    image: &Image,
+    p: u32,
+)
+    requires range { page_size * p < length image.now.memory }
+    requires joined { Joined pool.old cache.old buffer.now image.now }
+    ensures serves { Serves cache.old cache.new p (version_of image.now p) }
+    ensures joined { Joined pool.new cache.new buffer.now image.now }
+{
+    cache.prefetch(pool, image, p);
+}
+
 /// Gives the frames of a cache and of a buffer back.
 fn give_both(cache: PageCache, buffer: WriteBuffer, pool: &mut FramePool)
     requires { HoldsFrames pool.old cache buffer }
@@ -150,6 +168,17 @@ impl Executor {
             job,
             k,
         )
+    }
+
+    /// Keeps page p, where the image has it. It is fetched where it is not kept as it is in the image.
+    pub fn fetch(&mut self, image: &Image, p: u32)
+        requires may { MayExecute self.old image.now }
+        ensures asks { Asks (cache_of self.old) (cache_of self.new) image.now p }
+        ensures may { MayExecute self.new image.now }
+    {
+        if u64::from(p) * u64::from(PAGE) < u64::from(image.len()) {
+            fetch_over(&mut self.pool, &mut self.cache, &self.buffer, image, p);
+        }
     }
 
     /// The entry at the least address from this one on, of what the last routine wrote.

@@ -9,7 +9,8 @@ ghost use Rattle.machine_meaning.specs.Meaning.{module_memory};
 ghost use Rattle.fault_script.specs.Rows.{IsTallyOf};
 ghost use Rattle.fault_script.specs.Acts.{counted_as};
 ghost use Rattle.worker_gate.specs.Acting.{held_after};
-ghost use Rattle.worker_gate.specs.Working.{MayWork, Executes, first_tally, with_claims};
+ghost use Rattle.worker_gate.specs.Executing.{Asks};
+ghost use Rattle.worker_gate.specs.Working.{MayWork, Executes, first_tally, with_claims, kept_by};
 
 use crate::executor::{BufferView, Executor};
 use crate::job::Job;
@@ -129,6 +130,16 @@ impl Worker {
         ensures rest { Executes self.old self.new job.now.image.now job.now.code.now }
     {
         self.executor.run(job, k)
+    }
+
+    /// The worker's cache keeps page p of the job's image, numbered from 0 on, where the image has it. The page is fetched, and counts as
+    /// fetched, where it is not kept as it is in the image.
+    pub fn fetch<N: JobName>(&mut self, job: &Job<'_, N>, p: u32)
+        requires may { MayWork self.old job.now.image.now job.now.code.now }
+        ensures asks { Asks (kept_by self.old) (kept_by self.new) job.now.image.now p }
+        ensures rest { Executes self.old self.new job.now.image.now job.now.code.now }
+    {
+        self.executor.fetch(job.image, p);
     }
 
     /// What the last execution wrote.
