@@ -9,3 +9,7 @@ pub mod Running
 pub mod Steps
 pub mod Stepping
 pub mod Whole
+pub mod Simulated
+pub mod Scenes
+pub mod Resuming
+pub mod Simulating
