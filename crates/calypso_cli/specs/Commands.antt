@@ -24,8 +24,7 @@ use Rattle.fault_script.specs.Rows.{Row}
 use Rattle.fault_script.specs.Scripts.{script_of}
 use Rattle.run_report.specs.Logs.{Trace, log_text}
 use Rattle.run_report.specs.Reports.{report_text}
-use Rattle.calypso_engine.specs.Running.{trace_of}
-use Rattle.calypso_engine.specs.Traces.{IsTraceOf, Tallies, in_order, AreTalliesOf, FollowScript, Agree}
+use Rattle.calypso_engine.specs.Traces.{trace_of, IsTraceOf, Tallies, in_order, AreTalliesOf, FollowScript, Agree}
 use Rattle.program_gen.specs.Generated.{generated}
 use Rattle.command_words.specs.Commands.{Flags, Command, check, eval, run, sim, build, exec, gen, selfrun}
 use Rattle.calypso_cli.specs.Endings.{Ending, done, no_command, cannot_load, cannot_write, refused, fault, no_memory, output_failed, script_refused, events_refused, too_long, module_refused}

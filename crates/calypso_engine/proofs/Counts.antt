@@ -10,9 +10,9 @@ use Rattle.step_laws.proofs.Closed.{each_append}
 use Rattle.engine_laws.specs.Ran.{callers_claims}
 use Rattle.worker_gate.specs.Working.{with_claims}
 use Rattle.worker_gate.specs.Worked.{ends, total}
-use Rattle.calypso_engine.specs.Running.{Counted, traced}
+use Rattle.calypso_engine.specs.Running.{Counted}
+use Rattle.calypso_engine.specs.Traces.{traced, WaitsForWorkers}
 use Rattle.calypso_engine.specs.Teams.{ClaimedMore}
-use Rattle.calypso_engine.specs.Traces.{WaitsForWorkers}
 use Rattle.calypso_engine.specs.declared.team.Team.{Team}
 use Rattle.calypso_engine.proofs.Runs.{claims_then, claims_none}
 

@@ -24,8 +24,8 @@ use Rattle.run_report.specs.Logs.{TracedStep, log_text, step_log}
 use Rattle.calypso_engine.specs.Asked.{log_of, Outside, outside_of}
 use Rattle.calypso_engine.specs.Kept.{lines_behind, lines_of_end}
 use Rattle.calypso_engine.specs.Logs.{Logs, LogsFront, LogsFrontOf}
-use Rattle.calypso_engine.specs.Running.{rest_of, job_here, opening_here, traced, trace_of, Tells, Counted, WentOn, CameTo, StoppedBetween, GaveUp, Goes, Comes}
-use Rattle.calypso_engine.specs.Traces.{IsTraceOf}
+use Rattle.calypso_engine.specs.Running.{rest_of, job_here, opening_here, Tells, Counted, WentOn, CameTo, StoppedBetween, GaveUp, Goes, Comes}
+use Rattle.calypso_engine.specs.Traces.{traced, trace_of, IsTraceOf}
 use Rattle.calypso_engine.specs.declared.team.Team.{Team}
 use Rattle.calypso_engine.specs.declared.event.Standing.{Standing}
 use Rattle.calypso_engine.specs.declared.error.RunError.{RunError}

@@ -24,7 +24,8 @@ use Rattle.calypso_engine.specs.Asked.{log_of, Outside, outside_of}
 use Rattle.calypso_engine.specs.Kept.{lines_behind, lines_of_end}
 use Rattle.calypso_engine.specs.Logs.{Logs, LogsFront}
 use Rattle.calypso_engine.specs.Resuming.{behind}
-use Rattle.calypso_engine.specs.Running.{traced, trace_of, Tells}
+use Rattle.calypso_engine.specs.Running.{Tells}
+use Rattle.calypso_engine.specs.Traces.{traced, trace_of}
 use Rattle.calypso_engine.specs.Simulating.{ToldPart, ToldAll, ToldFront, ComesSo}
 use Rattle.calypso_engine.specs.declared.error.RunError.{RunError}
 use Rattle.calypso_engine.specs.declared.options.RunOptions.{RunOptions}

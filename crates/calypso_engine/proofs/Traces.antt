@@ -10,8 +10,7 @@ use Rattle.step_laws.specs.Caller.{completed}
 use Rattle.step_laws.specs.Closed.{ClosedStep, Each, IsWhole, jobs_in}
 use Rattle.step_laws.proofs.Caller.{caller_completes}
 use Rattle.run_report.specs.Logs.{TracedStep, Trace, log_text, step_log}
-use Rattle.calypso_engine.specs.Traces.{IsStepOf, IsTraceOf}
-use Rattle.calypso_engine.specs.Running.{traced, trace_of}
+use Rattle.calypso_engine.specs.Traces.{IsStepOf, IsTraceOf, traced, trace_of}
 
 -- ---- texts of logs
 

@@ -27,9 +27,9 @@ use Rattle.worker_gate.specs.Worked.{ends, total}
 use Rattle.calypso_engine.specs.Asked.{log_of, Outside}
 use Rattle.calypso_engine.specs.Beginning.{AreBegun, IsFresh}
 use Rattle.calypso_engine.specs.Logs.{Logs, LogsFrontOf}
-use Rattle.calypso_engine.specs.Running.{traced, trace_of, Counted, CameTo, GaveUp, StoppedBetween}
+use Rattle.calypso_engine.specs.Running.{Counted, CameTo, GaveUp, StoppedBetween}
+use Rattle.calypso_engine.specs.Traces.{traced, trace_of, IsTraceOf, Tallies, in_order, callers_tally, is_first_arrival, entries_in, WaitsForWorkers, AreTalliesOf, FollowScript, Agree}
 use Rattle.calypso_engine.specs.Teams.{ClaimedMore, HasTallies}
-use Rattle.calypso_engine.specs.Traces.{IsTraceOf, Tallies, in_order, callers_tally, is_first_arrival, entries_in, WaitsForWorkers, AreTalliesOf, FollowScript, Agree}
 use Rattle.calypso_engine.specs.Whole.{TellsRun}
 use Rattle.calypso_engine.specs.declared.error.RunError.{RunError}
 use Rattle.calypso_engine.specs.declared.error.RunError.TheVariants.{NoMemory}

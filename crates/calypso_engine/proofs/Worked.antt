@@ -14,9 +14,9 @@ use Rattle.step_laws.proofs.Caller.{caller_completes}
 use Rattle.engine_laws.specs.Ran.{callers_claims}
 use Rattle.worker_gate.specs.Working.{WorkerState}
 use Rattle.worker_gate.specs.Worked.{IsLeft, ends, total}
-use Rattle.calypso_engine.specs.Running.{Counted, traced}
+use Rattle.calypso_engine.specs.Running.{Counted}
+use Rattle.calypso_engine.specs.Traces.{traced, WaitsForWorkers}
 use Rattle.calypso_engine.specs.Teams.{ClaimedMore, Gathered}
-use Rattle.calypso_engine.specs.Traces.{WaitsForWorkers}
 use Rattle.calypso_engine.specs.declared.team.Team.{Team}
 use Rattle.calypso_engine.proofs.Completing.{completed_same, complete_stays}
 use Rattle.calypso_engine.proofs.Runs.{claims_one}

@@ -1,9 +1,9 @@
 -- Where a run stands, and what each event of main leaves.
-use Rattle.std.specs.Prelude.{◌≡◌, ℕ, ◌+◌, ◌^◌, ◌<◌, ◌≤◌, List, map, sum_by, count_by, Option, Some, None, Result, Ok, Err}
+use Rattle.std.specs.Prelude.{◌≡◌, ℕ, ◌+◌, ◌^◌, ◌<◌, ◌≤◌, List, sum_by, count_by, Option, Some, None, Result, Ok, Err}
 use Rattle.std.specs.Io.KnownBytes.{Appends}
 use Rattle.cal_base.specs.declared.ends.RunEnd.{RunEnd}
 use Rattle.cal_base.specs.History.{claims_by, is_worker}
-use Rattle.cal_base.specs.Claims.{StepJob, size_of}
+use Rattle.cal_base.specs.Claims.{StepJob}
 use Rattle.cal_base.specs.Contents.{AppendsPrefix, Told}
 use Rattle.cal_base.specs.Main.{Main, Opens, Event, meaning_of, steps_of, IsNumbered}
 use Rattle.cal_base.specs.Text.{text_of}
@@ -13,14 +13,14 @@ use Rattle.routine_vm.specs.Held.{main_state, MayGoOn}
 use Rattle.step_laws.specs.Closed.{ClosedStep, Each}
 use Rattle.engine_laws.specs.Steps.{TakesUnits, step_job}
 use Rattle.engine_laws.specs.Ran.{RunsTo, RunsThrough, callers_claims}
-use Rattle.run_report.specs.Logs.{TracedStep, Trace, log_text}
+use Rattle.run_report.specs.Logs.{log_text}
 use Rattle.step_board.specs.Counted.{is_current}
 use Rattle.worker_gate.specs.Worked.{ends, total}
 use Rattle.calypso_engine.specs.Asked.{log_of, Outside}
 use Rattle.calypso_engine.specs.Kept.{HasRoom}
 use Rattle.calypso_engine.specs.Logs.{Logs, LogsFrontOf}
 use Rattle.calypso_engine.specs.Teams.{ClaimedMore, IsTeam}
-use Rattle.calypso_engine.specs.Traces.{WaitsForWorkers}
+use Rattle.calypso_engine.specs.Traces.{traced, trace_of, WaitsForWorkers}
 use Rattle.calypso_engine.specs.declared.team.Team.{Team}
 use Rattle.calypso_engine.specs.declared.event.Standing.{Standing}
 use Rattle.calypso_engine.specs.declared.error.RunError.{RunError}
@@ -50,14 +50,6 @@ pub record IsReady (m : Module) (options : RunOptions) (s : Standing) (team : Te
   pub counted : s.steps + left ≡ options.fuel
   pub limit : options.fuel < 2 ^ 32
   pub few : options.workers ≤ 32
-
--- a closed step, as a log shows it
-abbrev pub traced : ClosedStep → TracedStep
-traced step = record { number = step.job.number; size = size_of step.job; history = step.history }
-
--- closed steps, as a log shows them
-abbrev pub trace_of : List ClosedStep → Trace
-trace_of closed = map traced closed
 
 -- some events were shown and some steps closed: out got the text of the events, and the log the histories of the steps
 pub record Tells (options : RunOptions) (shown : List Event) (closed : List ClosedStep) (was now : Outside) : Type 0 where

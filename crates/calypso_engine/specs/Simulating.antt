@@ -17,7 +17,8 @@ use Rattle.step_core.specs.declared.state.Closed.{Closed}
 use Rattle.calypso_engine.specs.Asked.{log_of, Outside}
 use Rattle.calypso_engine.specs.Logs.{LogsFront}
 use Rattle.calypso_engine.specs.Resuming.{behind, resume}
-use Rattle.calypso_engine.specs.Running.{rest_of, trace_of, Tells}
+use Rattle.calypso_engine.specs.Running.{rest_of, Tells}
+use Rattle.calypso_engine.specs.Traces.{trace_of}
 use Rattle.calypso_engine.specs.Scenes.{modes_in}
 use Rattle.calypso_engine.specs.declared.scene.Scene.{Scene}
 use Rattle.calypso_engine.specs.declared.event.Standing.{Standing}

@@ -7,6 +7,7 @@ use Rattle.cal_base.specs.declared.step.WorkerTally.{WorkerTally}
 use Rattle.cal_base.specs.declared.step.TheConstants.{CALLER}
 use Rattle.cal_base.specs.History.{is_worker, is_caller, is_first, claims_by, arrivals_by}
 use Rattle.cal_base.specs.Claims.{StepJob, size_of, claim_bound, IsLegal, IsComplete}
+use Rattle.step_laws.specs.Closed.{ClosedStep}
 use Rattle.fault_script.specs.Rows.{Row, row_of, IsTallyOf}
 use Rattle.step_board.specs.Counted.{is_current}
 use Rattle.run_report.specs.Logs.{TracedStep, Trace}
@@ -26,6 +27,14 @@ IsTraceOf [] [] = Unit {0}
 IsTraceOf [] (step ∷ trace) = ⊥
 IsTraceOf (job ∷ jobs) [] = ⊥
 IsTraceOf (job ∷ jobs) (step ∷ trace) = IsStepOf job step × IsTraceOf jobs trace
+
+-- a closed step, as a log shows it
+abbrev pub traced : ClosedStep → TracedStep
+traced step = record { number = step.job.number; size = size_of step.job; history = step.history }
+
+-- closed steps, as a log shows them
+abbrev pub trace_of : List ClosedStep → Trace
+trace_of closed = map traced closed
 
 -- ---- tallies
 
