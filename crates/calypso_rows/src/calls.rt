@@ -1,48 +1,7 @@
-//! Calls of the whole program over files and streams in memory.
+//! Calls that end before or beside their work: words that give no command, files and streams that fail.
 
-use cal_base::{MemFiles, MemSink, NoMemory, OpenGate};
-use calypso_cli::calypso;
-use std::alloc::Global;
-use std::sync::Wait;
+use row_calls::call;
 use std::test::Fail;
-use std::thread::Threads;
-
-/// What came of a call.
-#[derive(Drop)]
-pub struct Called {
-    pub status: u8,
-    pub out: MemSink,
-    pub err: MemSink,
-}
-
-pub fn strings(alloc: Global, words: &[&str]) -> Result<Vec<String>, NoMemory> {
-    let mut strings = Vec::new(alloc);
-    for word in words {
-        strings.push(String::from_str(alloc, word)?)?;
-    }
-    Ok(strings)
-}
-
-/// Calls the program with these words, where `p.csl` holds this text, on an output that fails at these writes.
-pub fn call<R: Threads + Wait + Sync>(
-    rt: &R,
-    alloc: Global,
-    words: &[&str],
-    text: &[u8],
-    fail: Vec<u64>,
-) -> Result<Called, NoMemory> {
-    let words = strings(alloc, words)?;
-    let mut given = Vec::new(alloc);
-    given.push((
-        String::from_str(alloc, "p.csl")?,
-        Vec::from_slice(alloc, text)?,
-    ))?;
-    let mut files = MemFiles::make(alloc, given, Vec::new(alloc), 0, Vec::new(alloc))?;
-    let mut out = MemSink::make(alloc, 1, 4096, fail)?;
-    let mut err = MemSink::make(alloc, 7, 256, Vec::new(alloc))?;
-    let status = calypso(rt, alloc, &words, &mut files, &mut out, &mut err, &OpenGate);
-    Ok(Called { status, out, err })
-}
 
 #[test]
 fn words_that_give_no_command(rt: HostRuntime) -> Result<(), Fail> {

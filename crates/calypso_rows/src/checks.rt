@@ -1,7 +1,7 @@
 //! Canonical texts.
 
-use crate::calls::call;
 use crate::refusals::EVERY_FORM;
+use row_calls::call;
 use std::test::Fail;
 
 /// A text, and its canonical form.

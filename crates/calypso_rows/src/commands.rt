@@ -1,9 +1,9 @@
 //! Calls of the whole program: each status that can come today, and calls of files and streams that fail one after another.
 
-use crate::calls::{Called, strings};
 use cal_base::{MemFiles, MemSink, OpenGate};
 use cal_terms::NoMemory;
 use calypso_cli::{Command, calypso, out_of_memory, plain};
+use row_calls::{Called, strings};
 use std::alloc::Global;
 use std::sync::Wait;
 use std::test::Fail;

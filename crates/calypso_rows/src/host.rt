@@ -1,8 +1,8 @@
 //! The real files: what they hold, what they do where the system interrupts them, and the program over them.
 
-use crate::calls::strings;
 use cal_base::{Files, HostFiles, LoadError, MemSink, OpenGate, append_all};
 use calypso_cli::calypso;
+use row_calls::strings;
 use std::alloc::{Allocator, Global};
 use std::fs::{File, Metadata, OpenFile, OpenOptions, create_dir, remove_dir, remove_file, write};
 use std::io::{self, ErrorKind, Read, Seek, SeekFrom, Write};

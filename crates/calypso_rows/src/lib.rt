@@ -1,4 +1,4 @@
-//! Worked examples of the whole program: texts and words with what comes of them, and the tests that cross crates.
+//! Worked rows of the command: words, files and streams, texts and their refusals. The tests stand here, since a crate that has tests is proved twice.
 #![tactic(auto)]
 
 #[cfg(test)]
@@ -8,20 +8,8 @@ mod checks;
 #[cfg(test)]
 mod commands;
 #[cfg(test)]
-mod fuel;
-#[cfg(test)]
 mod host;
-#[cfg(test)]
-mod modules;
 #[cfg(test)]
 mod refusals;
 #[cfg(test)]
-mod runs;
-#[cfg(test)]
-mod simulations;
-#[cfg(test)]
-mod sizes;
-#[cfg(test)]
 mod words;
-#[cfg(test)]
-mod workers;

@@ -1,9 +1,9 @@
 //! Texts that are refused, each with its place and its words.
 
-use crate::calls::call;
 use cal_base::NoMemory;
 use csl_lexer::lex;
 use csl_reader::{ReadError, Refusal, read_program};
+use row_calls::call;
 use std::alloc::Global;
 use std::process::Abort;
 use std::sync::Wait;

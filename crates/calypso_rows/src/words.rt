@@ -1,8 +1,8 @@
 //! Words of the command line, with the commands that they give.
 
-use crate::calls::strings;
 use cal_terms::NoMemory;
 use calypso_cli::{Command, Flags, WordsError, read_words};
+use row_calls::strings;
 use std::alloc::{AllocError, Global};
 use std::process::Abort;
 use std::test::Fail;

@@ -1,8 +1,8 @@
 //! Programs at the limits: long texts, deep nesting, many routines.
 
-use crate::calls::call;
 use cal_base::NoMemory;
 use itoa::Buffer;
+use row_calls::call;
 use std::alloc::Global;
 use std::process::Abort;
 use std::sync::Wait;

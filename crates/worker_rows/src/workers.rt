@@ -1,15 +1,11 @@
 //! Runs by workers: options, scripts, logs and reports by words, and what a gate sees of the threads.
 
-use crate::calls::{Called, strings};
-use cal_base::{Gate, MemFiles, MemSink, NoMemory, OpenGate, Point};
-use calypso_cli::calypso;
+use cal_base::{Gate, NoMemory, OpenGate, Point};
 use itoa::Buffer;
-use std::alloc::Global;
-use std::sync::Wait;
+use row_calls::run_words;
 use std::sync::atomic::{AtomicU64, Ordering};
 use std::test::Fail;
 use std::thread;
-use std::thread::Threads;
 
 pub(crate) const SQUARES: &[u8] =
     b"shared { int a[4]; int s; } main { parbegin routine[4](int w, int id) { a[id] = id * id; } parend; \
@@ -48,48 +44,6 @@ type Row = (
     &'static [u8],
     Option<&'static [u8]>,
 );
-
-/// What came of a call, and the files behind it.
-#[derive(Drop)]
-pub(crate) struct Ran {
-    pub called: Called,
-    pub files: MemFiles,
-}
-
-/// Calls the program where `p.csl` and `s` hold these texts and `l` may be created; the files fail at this call, or at none where it is 0.
-pub(crate) fn run_words<R: Threads + Wait + Sync, G: Gate>(
-    rt: &R,
-    alloc: Global,
-    words: &[&str],
-    texts: (&[u8], &[u8]),
-    fail: u64,
-    gate: &G,
-) -> Result<Ran, NoMemory> {
-    let words = strings(alloc, words)?;
-    let mut given = Vec::new(alloc);
-    given.push((
-        String::from_str(alloc, "p.csl")?,
-        Vec::from_slice(alloc, texts.0)?,
-    ))?;
-    given.push((
-        String::from_str(alloc, "s")?,
-        Vec::from_slice(alloc, texts.1)?,
-    ))?;
-    let mut free = Vec::new(alloc);
-    free.push(String::from_str(alloc, "l")?)?;
-    let mut failing = Vec::new(alloc);
-    if fail > 0 {
-        failing.push(fail)?;
-    }
-    let mut files = MemFiles::make(alloc, given, free, 1 << 20, failing)?;
-    let mut out = MemSink::make(alloc, 100, 1 << 14, Vec::new(alloc))?;
-    let mut err = MemSink::make(alloc, 100, 1 << 14, Vec::new(alloc))?;
-    let status = calypso(rt, alloc, &words, &mut files, &mut out, &mut err, gate);
-    Ok(Ran {
-        called: Called { status, out, err },
-        files,
-    })
-}
 
 #[test]
 fn options_of_a_run(rt: HostRuntime) -> Result<(), Fail> {

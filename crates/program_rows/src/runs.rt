@@ -1,7 +1,7 @@
 //! What programs print, and how they end.
 
-use crate::calls::call;
 use crate::modules::built_is;
+use row_calls::call;
 use std::alloc::Global;
 use std::process::Abort;
 use std::sync::Wait;

@@ -1,7 +1,8 @@
 //! Runs over lists of events, by words, with their logs.
 
-use crate::workers::{COUNTER, SQUARES, run_words};
+use crate::workers::{COUNTER, SQUARES};
 use cal_base::OpenGate;
+use row_calls::run_words;
 use std::alloc::Global;
 use std::test::Fail;
 

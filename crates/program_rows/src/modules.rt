@@ -1,8 +1,8 @@
 //! Modules: what `build` writes and `exec` runs.
 
-use crate::calls::strings;
 use cal_base::{MemFiles, MemSink, NoMemory, OpenGate};
 use calypso_cli::{Command, calypso, plain};
+use row_calls::strings;
 use std::alloc::Global;
 use std::process::Abort;
 use std::sync::Wait;
