@@ -1,6 +1,8 @@
 //! Calls that end before or beside their work: words that give no command, files and streams that fail.
 
-use row_calls::call;
+use cal_base::{MemFiles, MemSink, OpenGate};
+use calypso_cli::calypso;
+use row_calls::{call, strings};
 use std::test::Fail;
 
 #[test]
