@@ -1,0 +1,7 @@
+mod Left
+mod Charges
+mod Order
+mod Operators
+mod Words
+mod Loops
+mod Scopes
