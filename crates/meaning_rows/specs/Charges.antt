@@ -8,7 +8,7 @@ use Rattle.csl_tree.specs.declared.program.BinaryOp.TheVariants.{Add, Div}
 use Rattle.csl_meaning.specs.Rows.{number, routine, id, endless, Writes}
 use Rattle.meaning_rows.specs.Trees.{scalar, two, at_name, var, call, set, give, say, print, parallel, step, function, program}
 
--- the fuel is spent after this step
+-- with this much fuel the program prints this, and then main wants a unit where none is left, before any step is completed
 abbrev pub Spent : Program → ℕ → List ℕ → Type 0
 Spent p fuel out = Writes p fuel out (line (codes "fault: after step 0: fuel spent"))
 

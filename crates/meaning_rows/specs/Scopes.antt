@@ -1,12 +1,14 @@
--- How long locals last.
-use Rattle.std.specs.Prelude.{[], ◌∷◌, codes}
+-- What locals hold, and how long they last.
+use Rattle.std.specs.Prelude.{[], ◌∷◌, ◌++◌, codes}
+use Rattle.cal_base.specs.Text.{line}
 use Rattle.cal_terms.specs.declared.types.Gives.TheVariants as gives
+use Rattle.cal_terms.specs.declared.types.Ty.TheVariants as ty
 use Rattle.csl_tree.specs.declared.program.Program.{Program}
 use Rattle.csl_tree.specs.declared.program.Expr.{Expr}
-use Rattle.csl_tree.specs.declared.program.BinaryOp.TheVariants.{Add, Sub, Gt}
+use Rattle.csl_tree.specs.declared.program.BinaryOp.TheVariants.{Add, Sub, Eq, Lt, Gt}
 use Rattle.csl_tree.specs.declared.program.Form.TheVariants as form
-use Rattle.csl_meaning.specs.Rows.{number}
-use Rattle.meaning_rows.specs.Trees.{two, at_name, var, call, s, declare, set, add_to, give, when, count_to, print, function, program, Prints}
+use Rattle.csl_meaning.specs.Rows.{number, Writes}
+use Rattle.meaning_rows.specs.Trees.{named, greatest, two, at_name, var, call, s, declare, set, add_to, give, when, count_to, print, function, program, Prints, Faults}
 
 -- x
 abbrev x : Expr
@@ -61,3 +63,24 @@ own_locals = program []
 -- each call has parameters and locals of its own
 abbrev pub OwnLocals : Type 0
 OwnLocals = Prints own_locals (codes "6 4")
+
+-- shared { } main { int x = 9223372036854775807; x += 1; }
+abbrev pub local_too_large : Program
+local_too_large = program [] [] (declare (codes "x") greatest ∷ add_to (at_name (codes "x")) (number 1) ∷ [])
+
+-- where a local is added to, the sum must fit
+abbrev pub LocalOverflows : Type 0
+LocalOverflows = Faults local_too_large (codes "after step 0: overflow")
+
+-- shared { } bool f(int n) { return n == 2; } main { bool x = 1 < 2; print(x); x = f(3); print(x, f(2)); }
+abbrev pub truths_in_locals : Program
+truths_in_locals = program [] (function gives.Bool (codes "f") (codes "n" ∷ []) (give (two n Eq (number 2)) ∷ []) ∷ [])
+    (s (form.Declare ty.Bool (named (codes "x")) (two (number 1) Lt (number 2)))
+    ∷ print (x ∷ [])
+    ∷ set (at_name (codes "x")) (call (codes "f") (number 3 ∷ []))
+    ∷ print (x ∷ call (codes "f") (number 2 ∷ []) ∷ [])
+    ∷ [])
+
+-- a local holds a truth, and a function gives one
+abbrev pub TruthsInLocals : Type 0
+TruthsInLocals = Writes truths_in_locals 1000000 (line (codes "true") ++ line (codes "false true")) []

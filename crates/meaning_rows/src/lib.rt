@@ -1,4 +1,4 @@
-//! Worked rows of what programs mean: what is charged, what is evaluated before what, what operators give, what routines read, write and add to, how loops go, and how long locals last.
+//! Worked rows of what programs mean: what is charged, what is evaluated before what, what operators give, what routines read, write and add to, how loops go, and what locals hold.
 //! Each row is a small program as a tree, with a text that spells it above its definition, and what it writes, computed. They are the contracts of functions that do nothing.
 #![tactic(auto)]
 
@@ -127,9 +127,11 @@ pub fn turns_of_loops()
     ensures return_ends_routine { loops.ReturnEndsRoutine }
 {}
 
-/// How long locals last.
+/// What locals hold, and how long they last.
 pub fn scopes_of_locals()
     ensures block_ends { scopes.BlockEnds }
     ensures loop_ends { scopes.LoopEnds }
     ensures own_locals { scopes.OwnLocals }
+    ensures local_overflows { scopes.LocalOverflows }
+    ensures truths_in_locals { scopes.TruthsInLocals }
 {}

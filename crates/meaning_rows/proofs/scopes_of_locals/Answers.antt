@@ -9,3 +9,9 @@ returns-clause-loop_ends c = proved.loop_ends
 
 pub returns-clause-own_locals : goal.returns-clause-own_locals
 returns-clause-own_locals c = proved.own_locals
+
+pub returns-clause-local_overflows : goal.returns-clause-local_overflows
+returns-clause-local_overflows c = proved.local_overflows
+
+pub returns-clause-truths_in_locals : goal.returns-clause-truths_in_locals
+returns-clause-truths_in_locals c = proved.truths_in_locals
