@@ -6,6 +6,8 @@ mod alone;
 #[cfg(test)]
 mod engine;
 #[cfg(test)]
+mod fetches;
+#[cfg(test)]
 mod scripts;
 #[cfg(test)]
 mod worker_pages;

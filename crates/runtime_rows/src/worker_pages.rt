@@ -53,7 +53,7 @@ const ROWS: &[Row] = &[
 ];
 
 /// The verified module whose bytes these are, in hexadecimal digits.
-fn module_of(alloc: Global, spelling: &str) -> Result<Verified, Fail> {
+pub fn module_of(alloc: Global, spelling: &str) -> Result<Verified, Fail> {
     let bytes = hex::decode(alloc, spelling).ok().ok_or("bytes")?;
     let m = decode(alloc, bytes.as_slice()).ok().ok_or("a module")?;
     let code = verify(alloc, m).ok().ok_or("a verified module")?;
