@@ -1,18 +1,20 @@
 #!/usr/bin/env python3
 """Writes modules that a verifier might take long for, and runs a program on them.
 
-    modules.py FOLDER              writes the modules to FOLDER
-    modules.py FOLDER PROGRAM      and runs `PROGRAM exec` on each: status, seconds, peak memory
+    modules.py FOLDER                        writes the modules to FOLDER
+    modules.py FOLDER PROGRAM                and runs `PROGRAM exec` on each: status, seconds, peak memory
+    modules.py FOLDER PROGRAM --size 0.5     on modules of half the size
+    modules.py FOLDER PROGRAM --twice        on modules of half and of full size, with the ratio of their times
 
-The module format is in docs/FORMATS.md.
+The options and marks are those of texts.py; the module format is in docs/FORMATS.md.
 """
 import os
-import subprocess
 import sys
-import time
+
+sys.dont_write_bytecode = True
+from texts import arguments, part, tell, written
 
 INT, FALSE, TRUE, ITEM, JUMP, BRANCH, RETURN, POP = 0x00, 0x01, 0x02, 0x15, 0x18, 0x19, 0x1C, 0x1D
-MOST_BYTES = 16 << 20
 
 
 def num(n):
@@ -74,41 +76,30 @@ def pushes_and_pops(pairs):
 
 PROMISED = num(2**32 - 1)
 
-# each with the status that is wanted: 0 where it runs to its end, 10 where it is refused
+# Each with the status that is wanted, 0 where it runs to its end and 10 where it is refused, and the module of a size.
 MODULES = {
-    "branches_1023": (0, branches(1023, 200_000)),
-    "branches_1024": (10, branches(1024, 200_000)),
-    "branches_rebuilt": (0, rebuilt(12, 100_000)),
-    "tally_words": (0, tally_words(262_143, 1_000_000)),
-    "promised_tallies": (10, b"CSL1" + num(0) + PROMISED),
-    "promised_texts": (10, b"CSL1" + num(0) * 3 + PROMISED),
-    "promised_instructions": (10, b"CSL1" + num(0) * 6 + num(0) + PROMISED),
-    "too_large_number": (10, b"CSL1" + bytes([0x80, 0x80, 0x80, 0x80, 0x10])),
-    "wide": (0, many_blocks(2_000_000)),
-    "long": (0, pushes_and_pops(8_000_000)),
+    "branches_1023": (0, lambda s: branches(1023, part(200_000, s))),
+    "branches_1024": (10, lambda s: branches(1024, part(200_000, s))),
+    "branches_rebuilt": (0, lambda s: rebuilt(12, part(100_000, s))),
+    "tally_words": (0, lambda s: tally_words(part(262_143, s), part(1_000_000, s))),
+    "promised_tallies": (10, lambda s: b"CSL1" + num(0) + PROMISED),
+    "promised_texts": (10, lambda s: b"CSL1" + num(0) * 3 + PROMISED),
+    "promised_instructions": (10, lambda s: b"CSL1" + num(0) * 6 + num(0) + PROMISED),
+    "too_large_number": (10, lambda s: b"CSL1" + bytes([0x80, 0x80, 0x80, 0x80, 0x10])),
+    "wide": (0, lambda s: many_blocks(part(2_000_000, s))),
+    "long": (0, lambda s: pushes_and_pops(part(8_000_000, s))),
 }
 
 
-def run(program, path):
-    start = time.monotonic()
-    child = subprocess.Popen([program, "exec", path], stdout=subprocess.DEVNULL, stderr=subprocess.DEVNULL)
-    _, status, usage = os.wait4(child.pid, 0)
-    return os.waitstatus_to_exitcode(status), time.monotonic() - start, usage.ru_maxrss // 1024
-
-
 def main():
-    folder = sys.argv[1]
-    os.makedirs(folder, exist_ok=True)
-    for name, (wanted, data) in MODULES.items():
-        assert len(data) <= MOST_BYTES, name
-        path = os.path.join(folder, name + ".cslm")
-        with open(path, "wb") as f:
-            f.write(data)
-        line = f"{name:22} {len(data):>10} bytes"
-        if len(sys.argv) > 2:
-            status, seconds, mib = run(sys.argv[2], path)
-            line += f"  status {status} (wanted {wanted})  {seconds:7.2f} s  {mib:>5} MiB"
-        print(line)
+    given, size = arguments(__doc__)
+    for name, (wanted, make) in MODULES.items():
+        if given.only not in f"{name} exec":
+            continue
+        path = os.path.join(given.folder, name + ".cslm")
+        words = lambda: ["exec", written(path, make, size)]
+        half = lambda: ["exec", written(path, make, size // 2)]
+        tell(given, name, "exec", wanted, words, half)
 
 
 main()
