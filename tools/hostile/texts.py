@@ -7,16 +7,18 @@
     texts.py FOLDER PROGRAM --twice        on inputs of half and of full size, with the ratio of their times
 
     --only WORD     only what has the word in its line, for example a family or a command
-    --limit S       seconds until a run is ended; 60 if nothing is said
+    --limit S       seconds until a run is ended; 100 if nothing is said
 
 Seconds are those of the processors. The statuses that are wanted follow docs/LANGUAGE.md and docs/FORMATS.md. Marked are another status, more than 10
-seconds, more than 1 GiB, and with --twice a ratio above 2.2 where the longer run takes a second. The peak is never below that of this script, 10 MiB.
+seconds, more than 1 GiB, and with --twice a ratio above 2.2 where the longer run takes a second. The peak is never below that of this script, 15 MiB.
 """
 import argparse
 import itertools
 import os
-import signal
+import resource
+import shutil
 import subprocess
+import tempfile
 import sys
 
 MOST = 1 << 20
@@ -60,9 +62,10 @@ def declared(size, kind="int", all_names=None):
     for name in all_names or names():
         size -= len(kind) + len(name) + 2
         if size < 0:
-            return "".join(text), found
+            break
         found.append(name)
         text.append(f"{kind} {name};")
+    return "".join(text), found
 
 
 def used(size, use, kind="int", all_names=None):
@@ -90,6 +93,16 @@ def around(opening, depth, pieces, size, head="shared{}", before=""):
     return fill(size, f"{head}main{{{before}{opening * depth}", pieces, "}" * depth + "}")
 
 
+def words_at_one_place(size):
+    """Words whose names a table of names seeks from one place on."""
+    source = os.path.join(os.path.dirname(os.path.abspath(__file__)), "same_place.c")
+    with tempfile.TemporaryDirectory() as folder:
+        program = os.path.join(folder, "same_place")
+        subprocess.run(["cc", "-O2", "-o", program, source], check=True)
+        found = subprocess.run([program, str(size // 11)], capture_output=True, text=True, check=True).stdout.split()
+    return f"shared{{{declared(size - 15, 'int', found)[0]}}}main{{}}"
+
+
 def chain_of_functions(size):
     """256 functions, each as long as fits, that call the one before."""
     each = (size - 200) // 256
@@ -114,7 +127,7 @@ def routines(size):
 def calls_deep_in_calls(size):
     """Calls with eight arguments, the last of which is another such call."""
     call = "f(1,1,1,1,1,1,1," * 60 + "1" + ")" * 60
-    function = "int f(" + ",".join(f"int {a}" for a in "abcdefgh") + "){return h;}"
+    function = "int f(" + ",".join(f"int {a}" for a in "abcdeghi") + "){return i;}"
     return many(size, "print(" + "1," * 63 + call + ");", "", function)
 
 
@@ -189,6 +202,9 @@ TEXTS = {
     "steps": (0, 0, lambda s: steps(4, part(10_000, s), 4)),
     "steps_over_all_words": (0, 0, lambda s: steps(WORDS, part(1000, s), 1)),
 }
+
+if shutil.which("cc"):
+    TEXTS["words_at_one_place"] = (0, 0, words_at_one_place)
 
 # A text of each token alone.
 for token in "shared int bool main parbegin if else true { } ( ) [ ] , ; = += - ! && || == a 1 \"\" @".split():
@@ -274,12 +290,12 @@ def written(path, make, size):
 
 
 def measured(words, limit):
-    """Status, seconds of the processors, and MiB at most; a run that takes longer than the limit is ended."""
-    child = subprocess.Popen(words, stdin=subprocess.DEVNULL, stdout=subprocess.DEVNULL, stderr=subprocess.DEVNULL)
-    signal.signal(signal.SIGALRM, lambda *_: child.kill())
-    signal.alarm(limit)
+    """Status, seconds of the processors, and MiB at most. A run that takes longer than the limit is ended, as status -9."""
+    def bounded():
+        resource.setrlimit(resource.RLIMIT_CPU, (limit, limit))
+
+    child = subprocess.Popen(words, stdin=subprocess.DEVNULL, stdout=subprocess.DEVNULL, stderr=subprocess.DEVNULL, preexec_fn=bounded)
     _, status, usage = os.wait4(child.pid, 0)
-    signal.alarm(0)
     child.returncode = os.waitstatus_to_exitcode(status)
     return child.returncode, usage.ru_utime + usage.ru_stime, usage.ru_maxrss // 1024
 
@@ -308,7 +324,7 @@ def arguments(doc):
     parser.add_argument("--size", type=float, default=1)
     parser.add_argument("--twice", action="store_true")
     parser.add_argument("--only", default="")
-    parser.add_argument("--limit", type=int, default=60)
+    parser.add_argument("--limit", type=int, default=100)
     given = parser.parse_args()
     os.makedirs(given.folder, exist_ok=True)
     return given, int(MOST * given.size)
