@@ -124,6 +124,11 @@ def routines(size):
     return part(ROUTINES, size)
 
 
+def deep_calls(opening, value, closing, calls=63):
+    """So many calls that wait for one another, each so deep in a body."""
+    return f"shared{{}}int g(int n){{return n;}}int f(int n){{if(n<1){{return 0;}}{opening}return {value};{closing}return 0;}}main{{print(f({calls}));}}"
+
+
 def calls_deep_in_calls(size):
     """Calls with eight arguments, the last of which is another such call."""
     call = "f(1,1,1,1,1,1,1," * 60 + "1" + ")" * 60
@@ -191,6 +196,10 @@ TEXTS = {
     "fuel_by_calls": (0, 5, lambda s: f"shared{{}}int f(int n){{if(n<1){{return 1;}}return f(n-1)+f(n-1);}}main{{for(int i=0;i<{part(1000000, s)};i+=1){{print(f(19));}}}}"),
     "fuel_by_turns": (0, 5, lambda s: "shared{}main{while(true){}}"),
     "fuel_in_each_routine": (0, 5, lambda s: step("int a;", "while(true){}", part(16, s))),
+    "calls_in_60_loops": (0, 0, lambda s: deep_calls("while(true){" * 60, "f(n-1)", "}" * 60)),
+    "calls_in_60_ifs": (0, 0, lambda s: deep_calls("if(true){" * 60, "f(n-1)", "}" * 60)),
+    "calls_in_60_signs": (0, 0, lambda s: deep_calls("", "-" * 60 + "f(n-1)", "")),
+    "calls_in_60_calls": (0, 0, lambda s: deep_calls("", "g(" * 60 + "f(n-1)" + ")" * 60, "", 61)),
     "one_word_by_all": (0, 5, lambda s: step("int x;", "x=id;", routines(s))),
     "two_words_by_all": (0, 5, lambda s: step(f"int a[{ROUTINES}];", "a[id/2]=id;", routines(s))),
     "a_fault_in_the_last": (0, 5, lambda s: step(f"int a[{ROUTINES}];", f"a[id]=1/({routines(s)}-1-id);", routines(s))),
