@@ -1,6 +1,6 @@
 use Rattle.std.proofs.Common.{ℤ, List, Option, is_some, ap, ◌∙◌}
 use Rattle.write_buffer.specs.Buffered.{frame_of}
-use Rattle.step_rows.proofs.pages.give_both.Goals as goal
+use Rattle.page_rows.proofs.pages.give_both.Goals as goal
 
 pub give_back-requires-2 : goal.give_back-requires-2
 give_back-requires-2 c = λ p there.

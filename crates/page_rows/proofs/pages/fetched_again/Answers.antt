@@ -1,7 +1,7 @@
 use Rattle.std.proofs.Common.{sym, subst}
 use Rattle.shared_pages.specs.Cached.{Cached, Fits}
 use Rattle.shared_pages.proofs.Fitting.{fits_later}
-use Rattle.step_rows.proofs.pages.fetched_again.Goals as goal
+use Rattle.page_rows.proofs.pages.fetched_again.Goals as goal
 
 pub word-changed-requires-clause-fits : goal.word-changed-requires-clause-fits
 word-changed-requires-clause-fits c =

@@ -1,7 +1,7 @@
 use Rattle.std.proofs.Common.{◌≡◌, ◌<◌, ℕ, zero, suc, List, [], ◌∷◌, length, true, refl, ap, sym, ◌∙◌, arith}
 use Rattle.cal_terms.specs.declared.kinds.WordKind.TheVariants.{Ordinary}
 use Rattle.cal_base.specs.Memory.{Memory, kinds_of, kind_at, is_ordinary}
-use Rattle.step_rows.proofs.pages.touch.Goals as goal
+use Rattle.page_rows.proofs.pages.touch.Goals as goal
 
 -- a word of the kind is ordinary
 ordinary_kind : (memory : Memory) (a : ℕ) → a < length memory → kind_at memory a ≡ Ordinary → is_ordinary (kinds_of memory) a ≡ true

@@ -1,6 +1,6 @@
 use Rattle.std.proofs.Common.{◌≡◌, ◌<◌, length}
 use Rattle.shared_pages.specs.Cached.{Fits, IsBacked}
-use Rattle.step_rows.proofs.pages.differences.Given as goal
+use Rattle.page_rows.proofs.pages.differences.Given as goal
 
 abbrev pub invariant-reads : goal.invariant-reads
 invariant-reads l = record {

@@ -1,6 +1,6 @@
 use Rattle.std.proofs.Common.{◌≡◌}
 use Rattle.write_buffer.specs.Buffered.{AreOut}
-use Rattle.step_rows.proofs.pages.sum_of.Given as goal
+use Rattle.page_rows.proofs.pages.sum_of.Given as goal
 
 abbrev pub invariant-sums : goal.invariant-sums
 invariant-sums l = record {
