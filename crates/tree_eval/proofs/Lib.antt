@@ -4,9 +4,9 @@ pub mod Words
 pub mod Calls
 pub mod Loops
 pub mod Routines
-pub mod Searching
-pub mod Merging
-pub mod Installing
+pub mod Tallies
+pub mod Copying
+pub mod Laying
 pub mod Lines
 pub mod Telling
 pub mod Mains

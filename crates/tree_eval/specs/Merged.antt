@@ -1,15 +1,19 @@
--- What the answers leave in one word.
-use Rattle.std.specs.Prelude.{ℕ, Bool, false, slice_get}
-use Rattle.std.specs.Option.{option_map_or}
-use Rattle.cal_base.specs.declared.step.Word.{Word}
-use Rattle.cal_base.specs.Memory.{Memory}
-use Rattle.cal_base.specs.Answers.{Answers}
-use Rattle.cal_base.specs.After.{value_after, is_outside}
+-- How the answers of a step are laid on its stage.
+use Rattle.std.specs.Prelude.{◌≡◌, ℕ, ◌<◌, List, length, Option, None, All, slice_set}
+use Rattle.std.specs.List.Sorted.{IsStrictlyIncreasing}
+use Rattle.cal_base.specs.Memory.{Memory, kind_at}
+use Rattle.cal_base.specs.Pages.{first_kind}
+use Rattle.cal_base.specs.declared.answer.Answer.{Answer}
+use Rattle.cal_base.specs.Answers.{Answers, answer_of}
+use Rattle.step_merge.specs.Staged.{Staged, StandsFor}
 
--- the word with all entries merged
-abbrev pub merged_word : Answers → ℕ → Word → Word
-merged_word answers address word = record { kind = word.kind; value = value_after word.kind answers address word.value }
+-- these are the addresses of the memory's tally words, in ascending order
+pub record AreTallies (tallies : List ℕ) (memory : Memory) : Type 0 where
+  pub within : All (λ a. a < length memory) tallies
+  pub ascend : IsStrictlyIncreasing tallies
+  pub kinds : (a : ℕ) → a < length memory → first_kind tallies a ≡ kind_at memory a
 
--- is what the answers leave in the word a total outside 64 bits?
-abbrev pub is_outside_word : Memory → Answers → ℕ → Bool
-is_outside_word memory answers address = option_map_or (λ word. is_outside (merged_word answers address word)) (slice_get memory address) false
+-- whatever answers the stage stood for, of which number k had none: it now stands for these and what number k answered
+abbrev pub LaysOne : Staged → Staged → ℕ → Option Answer → Type 0
+LaysOne before later k answer =
+    (answers : Answers) → answer_of answers k ≡ None → StandsFor before answers → StandsFor later (slice_set answers k answer)

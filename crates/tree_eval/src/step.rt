@@ -80,9 +80,9 @@ fn step(
     ensures goes_on { OnOk result (GoesOn world.old world.new) }
 {
     let opening = memory_in(mem::replace(&mut world.store, Store::Main(Items::new(alloc))));
-    let (mut memory, answers) = step_answers(alloc, p, opening, fuel, blocks, widths)?;
-    match merge(&mut memory, answers.as_slice()) {
-        Ok(()) => {
+    let (memory, answers) = step_answers(alloc, p, opening, fuel, blocks, widths)?;
+    match merge(alloc, memory.as_slice(), answers.as_slice())? {
+        Ok(memory) => {
             world.store = Store::Main(memory);
             world.steps += 1;
             Ok(())

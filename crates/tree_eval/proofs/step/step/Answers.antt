@@ -1,4 +1,5 @@
 use Rattle.std.proofs.Common.{◌≡◌, ◌∙◌, ap, sym, arith, length, add-one}
+use Rattle.std.proofs.lemmas.Result.{IfOk-at_ok}
 use Rattle.cal_base.specs.Answers.{all_of}
 use Rattle.cal_base.specs.After.{after}
 use Rattle.cal_base.specs.Stores.{memory_in}
@@ -8,19 +9,25 @@ use Rattle.tree_eval.proofs.step.step.Goals as goal
 
 pub merge-requires-clause-numbers : goal.merge-requires-clause-numbers
 merge-requires-clause-numbers c =
-    omega (arith, ap length (c.as_slice.ensures ∙ c.in_ok-memory.ensures.answers), answers_few c.args.p.now c.memory_in-opening.result c.args.fuel c.args.blocks.now c.args.widths.now, c.requires.few)
+    omega (arith, ap length (c.as_slice-2.ensures ∙ c.in_ok-memory.ensures.answers), answers_few c.args.p.now c.memory_in-opening.result c.args.fuel c.args.blocks.now c.args.widths.now, c.requires.few)
+
+pub merge-requires-clause-words : goal.merge-requires-clause-words
+merge-requires-clause-words c =
+    let opening_is : c.memory_in-opening.result ≡ memory_in c.args.world.now.store = c.memory_in-opening.ensures ∙ ap memory_in c.replace.ensures.value in
+    omega (arith, ap length (c.as_slice.ensures ∙ c.in_ok-memory.ensures.memory ∙ opening_is), c.requires.words)
 
 pub returns-in-Ok-clause-tells : goal.returns-in-Ok-clause-tells
 returns-in-Ok-clause-tells c = λ text.
     let opening_is : c.memory_in-opening.result ≡ memory_in c.args.world.now.store = c.memory_in-opening.ensures ∙ ap memory_in c.replace.ensures.value in
-    let memory_is = sym (c.in_ok-memory.ensures.memory ∙ opening_is) in
-    let answers_are = sym (c.as_slice.ensures ∙ c.in_ok-memory.ensures.answers ∙ ap (λ x. all_of (answers c.args.p.now x c.args.fuel c.args.blocks.now c.args.widths.now)) opening_is) in
-    rw add-one (step_done c.args.p.now c.args.fuel c.args.blocks.now c.args.widths.now c.args.world.now c.merge.new.memory text ((λ i. after (memory_is i) (answers_are i)) ∙ c.in-Ok.ensures.merged))
+    let memory_is = sym (c.as_slice.ensures ∙ c.in_ok-memory.ensures.memory ∙ opening_is) in
+    let answers_are = sym (c.as_slice-2.ensures ∙ c.in_ok-memory.ensures.answers ∙ ap (λ x. all_of (answers c.args.p.now x c.args.fuel c.args.blocks.now c.args.widths.now)) opening_is) in
+    rw add-one (step_done c.args.p.now c.args.fuel c.args.blocks.now c.args.widths.now c.args.world.now c.in-Ok.memory text ((λ i. after (memory_is i) (answers_are i)) ∙ c.in_ok-memory-2.ensures.merged ∙ c.in-Ok.is))
 
 pub returns-in-Ok-clause-goes_on : goal.returns-in-Ok-clause-goes_on
 returns-in-Ok-clause-goes_on c =
     let opening_is : c.memory_in-opening.result ≡ memory_in c.args.world.now.store = c.memory_in-opening.ensures ∙ ap memory_in c.replace.ensures.value in
+    let as_many : length c.in-Ok.memory ≡ length c.as_slice.result.now = IfOk-at_ok _ c.in-Ok.is c.in_ok-memory-2.ensures.words in
     record {
-      main = record { words = omega (arith, c.merge.ensures.words, ap length (c.in_ok-memory.ensures.memory ∙ opening_is), c.requires.words); steps = omega (arith, c.requires.steps) };
+      main = record { words = omega (arith, as_many, ap length (c.as_slice.ensures ∙ c.in_ok-memory.ensures.memory ∙ opening_is), c.requires.words); steps = omega (arith, c.requires.steps) };
       fuel = omega arith;
     }
