@@ -17,20 +17,21 @@ ghost use Rattle.tree_eval.specs.declared.main_halt.MainHalt.TheVariants.{OutFai
 
 use crate::line::{line_of, pieces};
 use crate::main_halt::{MainHalt, main_halt};
+use crate::names::Names;
 use crate::operators::truth_in;
 use crate::step::parbegin;
 use crate::stmt::{MOST_LEVELS, keep, statement, value};
 use crate::store::take_unit;
 use cal_base::{Sink, Val, write_all};
 use csl_meaning::{Ending, Local, World};
-use csl_tree::program::{Arm, Expr, Form, Item, Program, Stmt};
+use csl_tree::program::{Arm, Expr, Form, Item, Stmt};
 use sqlite_items::Items;
 use std::alloc::Global;
 
 /// The value of an expression of main.
 fn main_value(
     alloc: Global,
-    p: &Program,
+    p: &Names<'_>,
     e: &Expr,
     locals: &Items<Local>,
     world: &mut World,
@@ -64,7 +65,7 @@ fn main_unit(world: &mut World) -> Result<(), MainHalt>
 /// A statement of main that is the same elsewhere.
 fn plain_statement(
     alloc: Global,
-    p: &Program,
+    p: &Names<'_>,
     s: &Stmt,
     locals: &mut Items<Local>,
     world: &mut World,
@@ -84,7 +85,7 @@ fn plain_statement(
 /// The text of a line that is printed.
 fn printed(
     alloc: Global,
-    p: &Program,
+    p: &Names<'_>,
     items: &[Item],
     locals: &Items<Local>,
     world: &mut World,
@@ -105,7 +106,7 @@ fn printed(
 /// Prints one line, after all its values are known.
 fn print<S: Sink>(
     alloc: Global,
-    p: &Program,
+    p: &Names<'_>,
     fuel: u64,
     items: &[Item],
     locals: &Items<Local>,
@@ -128,7 +129,7 @@ fn print<S: Sink>(
 #[cycle(main)]
 fn main_statement<S: Sink>(
     alloc: Global,
-    p: &Program,
+    p: &Names<'_>,
     fuel: u64,
     s: &Stmt,
     locals: &mut Items<Local>,
@@ -187,7 +188,7 @@ fn main_statement<S: Sink>(
 #[cycle(main)]
 pub fn main_statements<S: Sink>(
     alloc: Global,
-    p: &Program,
+    p: &Names<'_>,
     fuel: u64,
     all: &[Stmt],
     locals: &mut Items<Local>,
@@ -214,7 +215,7 @@ pub fn main_statements<S: Sink>(
 #[cycle(main)]
 fn main_choose<S: Sink>(
     alloc: Global,
-    p: &Program,
+    p: &Names<'_>,
     fuel: u64,
     arms: &[Arm],
     last: &Option<Items<Stmt>>,
@@ -245,7 +246,7 @@ fn main_choose<S: Sink>(
 #[cycle(main)]
 fn main_block<S: Sink>(
     alloc: Global,
-    p: &Program,
+    p: &Names<'_>,
     fuel: u64,
     body: &Items<Stmt>,
     locals: &mut Items<Local>,
@@ -269,7 +270,7 @@ fn main_block<S: Sink>(
 #[cycle(main)]
 fn main_turns<S: Sink>(
     alloc: Global,
-    p: &Program,
+    p: &Names<'_>,
     fuel: u64,
     test: &Expr,
     body: &Items<Stmt>,
@@ -304,7 +305,7 @@ fn main_turns<S: Sink>(
 #[cycle(main)]
 fn main_step<S: Sink>(
     alloc: Global,
-    p: &Program,
+    p: &Names<'_>,
     fuel: u64,
     next: Option<&Stmt>,
     locals: &mut Items<Local>,
