@@ -2,7 +2,7 @@
 
 ghost use Rattle.std.specs.Prelude.{◌≡◌, ◌<◌, ◌≤◌, ◌*◌, ◌+◌, ◌/◌, ℕ, ℤ, Some, All, IfOk, length, map, slice_set, replicate, pos};
 ghost use Rattle.std.specs.List.Sorted.{IsStrictlyIncreasing};
-ghost use Rattle.cal_base.specs.Memory.{memory_of, kind_at, value_at, with_value};
+ghost use Rattle.cal_base.specs.Memory.{memory_of, kinds_of, kind_at, value_at, with_value};
 ghost use Rattle.cal_base.specs.Pages.{first_memory, page_count, Paged, page_size, page_words, page_of, version_of, next_version, IsLater};
 
 use cal_terms::limits::MOST_WORDS;
@@ -86,6 +86,13 @@ impl Image {
         ensures { result ≡ kind_at self.now.memory a }
     {
         self.kinds[a as usize]
+    }
+
+    /// The kinds of all words, by their addresses from 0.
+    pub fn kinds(&self) -> &[WordKind]
+        ensures { result.now ≡ kinds_of self.now.memory }
+    {
+        self.kinds.as_slice()
     }
 
     /// The 64 words of page p, which begins at address 64 p; past the last word they are 0.

@@ -19,7 +19,7 @@ use Rattle.event_world.proofs.Meant.{world_is_meant}
 use Rattle.event_world.proofs.Courses.{world_is_of_the_meaning}
 use Rattle.run_report.specs.Logs.{Trace}
 use Rattle.calypso_engine.specs.Traces.{trace_of, IsTraceOf}
-use Rattle.calypso_engine.specs.Simulated.{simulated}
+use Rattle.event_engine.specs.Simulated.{simulated}
 use Rattle.calypso_engine.proofs.Traces.{closed_traced}
 use Rattle.command_words.specs.Commands.{sim}
 use Rattle.calypso_cli.specs.Endings.{Ending, kind_of}

@@ -1,15 +1,15 @@
 -- What the team did, one step after the other.
-use Rattle.std.proofs.Common.{◌≡◌, ℕ, ◌+◌, ◌<◌, ◌≤◌, [], ◌∷◌, ◌++◌, List, sum_by, sym, ap, subst, ◌∙◌, arith}
+use Rattle.std.proofs.Common.{◌≡◌, ℕ, ◌+◌, ◌<◌, ◌≤◌, [], ◌++◌, List, sym, ap, subst, ◌∙◌, arith}
 use Rattle.std.specs.List.{count_by}
 use Rattle.std.proofs.lemmas.List.Sums.{sum_by-append}
 use Rattle.cal_base.specs.declared.step.WorkerTally.{WorkerTally}
 use Rattle.cal_base.specs.History.{claims_by, is_worker}
 use Rattle.step_board.specs.Counted.{is_current}
-use Rattle.step_laws.specs.Closed.{ClosedStep, Each}
+use Rattle.step_laws.specs.Closed.{ClosedStep}
 use Rattle.step_laws.proofs.Closed.{each_append}
 use Rattle.engine_laws.specs.Ran.{callers_claims}
 use Rattle.worker_gate.specs.Working.{with_claims}
-use Rattle.worker_gate.specs.Worked.{ends, total}
+use Rattle.worker_gate.specs.Worked.{total}
 use Rattle.calypso_engine.specs.Running.{Counted}
 use Rattle.calypso_engine.specs.Traces.{traced, WaitsForWorkers}
 use Rattle.calypso_engine.specs.Teams.{ClaimedMore}

@@ -1,30 +1,30 @@
 -- What each event of main leaves.
-use Rattle.std.proofs.Common.{◌≡◌, ℕ, suc, ◌+◌, ◌*◌, ◌≤◌, Bool, List, [], ◌∷◌, ◌++◌, Option, Some, None, Result, Ok, Err, refl, sym, ap, subst, ◌∙◌, arith, append-nil}
+use Rattle.std.proofs.Common.{◌≡◌, ℕ, suc, ◌+◌, List, [], ◌∷◌, ◌++◌, Option, Result, Ok, Err, sym, ap, subst, ◌∙◌, append-nil}
 use Rattle.std.specs.Io.KnownBytes.{Appends}
 use Rattle.std.proofs.KnownBytes.{Appends-nil, Appends-trans}
 use Rattle.cal_base.specs.declared.ends.RunEnd.{RunEnd}
 use Rattle.cal_base.specs.declared.ends.RunEnd.TheVariants.{StepFailed}
 use Rattle.cal_base.specs.declared.ends.StepFault.{StepFault}
-use Rattle.cal_base.specs.Contents.{Contents, AppendsPrefix, Told}
+use Rattle.cal_base.specs.Contents.{AppendsPrefix, Told}
 use Rattle.cal_base.specs.Memory.{Memory}
 use Rattle.cal_base.specs.History.{History}
-use Rattle.cal_base.specs.Claims.{StepJob, size_of, merged, meant}
+use Rattle.cal_base.specs.Claims.{StepJob, merged, meant}
 use Rattle.cal_base.specs.Main.{Main, Ends, Shows, Opens, Event, Line, meaning_of, steps_of, step_event, going_on, IsNumbered}
 use Rattle.cal_base.specs.Pages.{Paged}
 use Rattle.cal_base.specs.Text.{text_of, event_text}
 use Rattle.bytecode.specs.declared.module.Module.{Module}
 use Rattle.machine_meaning.specs.Meaning.{main_of}
-use Rattle.routine_vm.specs.Held.{Held, main_state}
+use Rattle.routine_vm.specs.Held.{main_state}
 use Rattle.step_laws.proofs.StepLaws.{merged_is_meant}
 use Rattle.step_laws.specs.Closed.{ClosedStep, IsWhole, jobs_in}
 use Rattle.step_core.specs.Calls.{IsEnd}
-use Rattle.engine_laws.specs.Ran.{RunsTo, Here, Shown, Closed, RunsThrough, Ended, Failed}
+use Rattle.engine_laws.specs.Ran.{RunsTo, Here, Shown, Closed, Ended, Failed}
 use Rattle.engine_laws.proofs.Running.{parts_are_meant}
-use Rattle.run_report.specs.Logs.{TracedStep, log_text, step_log}
+use Rattle.run_report.specs.Logs.{log_text, step_log}
 use Rattle.calypso_engine.specs.Asked.{log_of, Outside, outside_of}
 use Rattle.calypso_engine.specs.Kept.{lines_behind, lines_of_end}
-use Rattle.calypso_engine.specs.Logs.{Logs, LogsFront, LogsFrontOf}
-use Rattle.calypso_engine.specs.Running.{rest_of, job_here, opening_here, Tells, Counted, WentOn, CameTo, StoppedBetween, GaveUp, Goes, Comes}
+use Rattle.calypso_engine.specs.Logs.{Logs, LogsFront}
+use Rattle.calypso_engine.specs.Running.{rest_of, Tells, Counted, WentOn, CameTo, StoppedBetween, GaveUp}
 use Rattle.calypso_engine.specs.Traces.{traced, trace_of, IsTraceOf}
 use Rattle.calypso_engine.specs.declared.team.Team.{Team}
 use Rattle.calypso_engine.specs.declared.event.Standing.{Standing}

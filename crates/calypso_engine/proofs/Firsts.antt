@@ -8,7 +8,7 @@ use Rattle.cal_base.specs.declared.step.Verdict.TheVariants.{First, Again, Stale
 use Rattle.cal_base.specs.declared.step.Entry.{Entry}
 use Rattle.cal_base.specs.declared.step.Entry.TheVariants.{Claim, Arrive}
 use Rattle.cal_base.specs.History.{History, anyone, is_worker, is_caller, is_claim, is_first, claims_of, claims_by, is_delivered}
-use Rattle.cal_base.specs.Claims.{StepJob, size_of, verdict_on, MayArrive, MayFollow, IsLegal}
+use Rattle.cal_base.specs.Claims.{StepJob, size_of, MayArrive, MayFollow, IsLegal}
 use Rattle.step_laws.proofs.Histories.{count_by-push, kept_along}
 use Rattle.step_laws.proofs.Growth.{delivered_at, delivered_apart, delivered_no_more}
 use Rattle.step_laws.proofs.StepLaws.{are_bounded}

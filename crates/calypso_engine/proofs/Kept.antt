@@ -1,13 +1,12 @@
 -- The words before a step.
-use Rattle.std.proofs.Common.{◌≡◌, ℕ, zero, suc, ◌+◌, ◌<◌, ◌≤◌, Bool, true, false, List, [], ◌∷◌, length, Option, None, Some, IfSome, ℤ, refl, sym, ap, ◌∙◌, arith, ⊎_elim}
+use Rattle.std.proofs.Common.{◌≡◌, ℕ, zero, suc, ◌+◌, ◌<◌, Bool, true, false, [], ◌∷◌, length, Option, None, Some, IfSome, ℤ, refl, sym, ap, ◌∙◌, arith, ⊎_elim}
 use Rattle.std.proofs.lemmas.List.{length-map}
 use Rattle.std.proofs.lemmas.Bool.{cases_eq}
-use Rattle.cal_terms.specs.declared.kinds.WordKind.{WordKind}
 use Rattle.cal_base.specs.Memory.{Memory, kinds_of, value_at, with_value}
 use Rattle.cal_base.specs.Main.{Step}
 use Rattle.cal_base.specs.Pages.{Paged}
 use Rattle.cal_base.specs.Text.{step_lines, event_text}
-use Rattle.cal_base.proofs.Images.{kinds-with_value, value_at-with_value_other}
+use Rattle.cal_base.proofs.Images.{value_at-with_value_other}
 use Rattle.calypso_engine.specs.Kept.{HasRoom, KeepsCopy, lines_behind}
 
 -- memories with words of the same kinds have as many words

@@ -14,7 +14,3 @@ pub mod Events
 pub mod Ready
 pub mod Beginning
 pub mod Whole
-pub mod Resuming
-pub mod Simulating
-pub mod Scenes
-pub mod Playing

@@ -1,5 +1,5 @@
 -- What went to the log, one after the other.
-use Rattle.std.proofs.Common.{◌≡◌, ℕ, List, [], ◌++◌, Option, None, Some, Bor, IfSome, refl, ◌∙◌}
+use Rattle.std.proofs.Common.{ℕ, List, [], ◌++◌, Option, None, Some, Bor, IfSome, refl, ◌∙◌}
 use Rattle.std.specs.Prelude.{option_map}
 use Rattle.std.proofs.Math.Seq.{take-length}
 use Rattle.cal_base.specs.Contents.{Contents, HoldsBytes, Told, StaysTrue}

@@ -1,12 +1,12 @@
 -- Main may go on behind each event.
-use Rattle.std.proofs.Common.{◌≡◌, ℕ, suc, ◌+◌, ◌*◌, ◌≤◌, ◌<◌, ◌^◌, Bool, true, false, List, length, Option, Some, None, refl, sym, ap, subst, ◌∙◌, arith}
+use Rattle.std.proofs.Common.{◌≡◌, ℕ, suc, ◌+◌, ◌≤◌, Bool, true, false, List, Option, Some, None, refl, sym, ap, subst, ◌∙◌, arith}
 use Rattle.cal_base.specs.Memory.{Memory, kinds_of}
 use Rattle.cal_base.specs.Main.{Main, Shows, Opens, IsNumbered}
 use Rattle.cal_base.specs.Pages.{Paged, IsLater}
 use Rattle.bytecode.specs.declared.module.Module.{Module}
 use Rattle.machine_meaning.specs.Machine.{State}
 use Rattle.machine_meaning.specs.Runs.{main_beginning}
-use Rattle.machine_meaning.specs.Meaning.{main_of, machine_main, module_memory}
+use Rattle.machine_meaning.specs.Meaning.{main_of, machine_main}
 use Rattle.routine_vm.specs.Held.{Held, main_state, MayGoOn}
 use Rattle.engine_laws.specs.Steps.{TakesUnits, step_job}
 use Rattle.engine_laws.proofs.Units.{steps_are_numbered, steps_take_units}
@@ -14,7 +14,7 @@ use Rattle.std.specs.List.{AllByRecursion}
 use Rattle.fault_script.specs.Rows.{Row}
 use Rattle.worker_gate.proofs.Later.{may_work_later}
 use Rattle.calypso_engine.specs.Kept.{HasRoom}
-use Rattle.calypso_engine.specs.Running.{rest_of, job_here, opening_here, IsReady}
+use Rattle.calypso_engine.specs.Running.{rest_of, opening_here, IsReady}
 use Rattle.calypso_engine.specs.Stepping.{MayStep, IsBehind, IsFirst}
 use Rattle.calypso_engine.specs.Teams.{IsMember, IsTeam}
 use Rattle.calypso_engine.specs.declared.team.Team.{Team}

@@ -1,5 +1,5 @@
 -- The members of a team, from step to step.
-use Rattle.std.proofs.Common.{◌≡◌, ℕ, zero, suc, ◌+◌, ◌<◌, ◌≤◌, ◌&&◌, not, Bool, true, false, List, [], ◌∷◌, map, length, sum_by, IfSome, Option, None, Some, is_some, refl, sym, ap, subst, ◌∙◌, arith}
+use Rattle.std.proofs.Common.{◌≡◌, ℕ, ◌+◌, ◌<◌, ◌≤◌, ◌&&◌, not, Bool, true, false, List, [], ◌∷◌, map, length, sum_by, IfSome, Option, None, Some, is_some, refl, sym, ap, subst, ◌∙◌, arith}
 use Rattle.std.specs.Prelude.{if◌then◌else◌}
 use Rattle.std.specs.List.{AllByRecursion, AllZip, range_with_len}
 use Rattle.std.proofs.lemmas.List.{length-map}
@@ -8,7 +8,7 @@ use Rattle.std.proofs.lemmas.List.Sums.{sum_by-cons}
 use Rattle.bytecode.specs.declared.module.Module.{Module}
 use Rattle.cal_base.specs.Pages.{Paged, IsLater}
 use Rattle.fault_script.specs.Rows.{Row, row_of, IsTallyOf}
-use Rattle.worker_gate.specs.Working.{WorkerState, MayWork}
+use Rattle.worker_gate.specs.Working.{WorkerState}
 use Rattle.worker_gate.specs.Worked.{IsLeft, ends, late}
 use Rattle.worker_gate.specs.Worked as worked
 use Rattle.worker_gate.proofs.Later.{may_work_later}

@@ -1,34 +1,32 @@
 -- What a run tells that came to its end.
-use Rattle.std.proofs.Common.{◌≡◌, ℕ, zero, suc, ◌+◌, ◌<◌, ◌≤◌, false, true, Bool, List, [], ◌∷◌, ◌++◌, map, length, get_or, Option, refl, sym, ap, subst, ◌∙◌, arith, sum_by}
+use Rattle.std.proofs.Common.{◌≡◌, ℕ, zero, suc, ◌+◌, ◌<◌, ◌≤◌, false, true, Bool, List, [], ◌∷◌, ◌++◌, map, length, get_or, refl, sym, ap, subst, ◌∙◌, arith, sum_by}
 use Rattle.std.specs.Prelude.{if◌then◌else◌}
 use Rattle.std.specs.List.{AllByRecursion, Any, count_by, range_with_len}
-use Rattle.std.proofs.lemmas.List.{length-map}
-use Rattle.std.proofs.lemmas.List.Sums.{sum_by-cons, get_or-le-sum_by}
+use Rattle.std.proofs.lemmas.List.Sums.{sum_by-cons}
 use Rattle.std.specs.Io.KnownBytes.{Appends}
 use Rattle.bytecode.specs.declared.module.Module.{Module}
 use Rattle.cal_base.specs.declared.ends.RunEnd.{RunEnd}
 use Rattle.cal_base.specs.declared.step.TheConstants.{CALLER}
 use Rattle.cal_base.specs.declared.step.WorkerTally.{WorkerTally}
-use Rattle.cal_base.specs.declared.step.Entry.{Entry}
 use Rattle.cal_base.specs.Claims.{StepJob}
-use Rattle.cal_base.specs.Contents.{Contents, Told, AppendsPrefix}
+use Rattle.cal_base.specs.Contents.{AppendsPrefix}
 use Rattle.cal_base.specs.History.{History, claims_by, is_caller, is_worker}
 use Rattle.cal_base.specs.Main.{Main, Event, meaning_of, steps_of}
 use Rattle.cal_base.specs.Pages.{Paged}
 use Rattle.cal_base.specs.Text.{text_of}
 use Rattle.fault_script.specs.Rows.{Row, row_of, IsTallyOf}
 use Rattle.step_board.specs.Counted.{is_current}
-use Rattle.step_laws.specs.Closed.{ClosedStep, Each, IsWhole, jobs_in}
+use Rattle.step_laws.specs.Closed.{ClosedStep, Each, IsWhole}
 use Rattle.engine_laws.specs.Ran.{callers_claims, IsMeantRun}
 use Rattle.engine_laws.proofs.Running.{runs_are_meant}
-use Rattle.run_report.specs.Logs.{TracedStep, Trace, log_text}
+use Rattle.run_report.specs.Logs.{TracedStep}
 use Rattle.worker_gate.specs.Working.{WorkerState, first_tally}
 use Rattle.worker_gate.specs.Worked.{ends, total}
 use Rattle.calypso_engine.specs.Asked.{log_of, Outside}
 use Rattle.calypso_engine.specs.Beginning.{AreBegun, IsFresh}
-use Rattle.calypso_engine.specs.Logs.{Logs, LogsFrontOf}
+use Rattle.calypso_engine.specs.Logs.{LogsFrontOf}
 use Rattle.calypso_engine.specs.Running.{Counted, CameTo, GaveUp, StoppedBetween}
-use Rattle.calypso_engine.specs.Traces.{traced, trace_of, IsTraceOf, Tallies, in_order, callers_tally, is_first_arrival, entries_in, WaitsForWorkers, AreTalliesOf, FollowScript, Agree}
+use Rattle.calypso_engine.specs.Traces.{traced, trace_of, IsTraceOf, callers_tally, is_first_arrival, entries_in, WaitsForWorkers, Agree}
 use Rattle.calypso_engine.specs.Teams.{ClaimedMore, HasTallies}
 use Rattle.calypso_engine.specs.Whole.{TellsRun}
 use Rattle.calypso_engine.specs.declared.error.RunError.{RunError}

@@ -1,19 +1,17 @@
 -- Workers are back, and the caller completes the step.
-use Rattle.std.proofs.Common.{◌≡◌, ℕ, zero, suc, ◌+◌, ◌*◌, ◌<◌, ◌≤◌, [], ◌∷◌, List, length, sum_by, refl, sym, ap, subst, ◌∙◌, arith, ⊎_elim, inl, inr}
+use Rattle.std.proofs.Common.{◌≡◌, ℕ, ◌+◌, ◌*◌, ◌<◌, ◌≤◌, [], ◌∷◌, List, length, sum_by, refl, sym, ap, subst, ◌∙◌, arith, ⊎_elim, inl}
 use Rattle.std.specs.Prelude.{◌⊎◌}
 use Rattle.std.specs.List.{count_by, AllZip}
-use Rattle.cal_base.specs.declared.step.WorkerTally.{WorkerTally}
-use Rattle.cal_base.specs.History.{History, claims_by, arrivals_by, is_claim, is_arrival, anyone, is_caller, is_worker}
-use Rattle.cal_base.specs.Claims.{StepJob, size_of, claim_bound, arrival_bound, IsLegal, IsComplete}
+use Rattle.cal_base.specs.History.{History, claims_by, arrivals_by, is_claim, anyone, is_caller, is_worker}
+use Rattle.cal_base.specs.Claims.{StepJob, size_of, claim_bound, arrival_bound, IsComplete}
 use Rattle.bytecode.specs.declared.module.Module.{Module}
 use Rattle.cal_base.specs.Pages.{Paged}
 use Rattle.step_board.specs.Counted.{is_current, current_arrivals}
 use Rattle.step_laws.specs.Caller.{NoCaller, completed, with_pairs}
-use Rattle.step_laws.specs.Closed.{ClosedStep, Each}
+use Rattle.step_laws.specs.Closed.{ClosedStep}
 use Rattle.step_laws.proofs.Caller.{caller_completes}
-use Rattle.engine_laws.specs.Ran.{callers_claims}
 use Rattle.worker_gate.specs.Working.{WorkerState}
-use Rattle.worker_gate.specs.Worked.{IsLeft, ends, total}
+use Rattle.worker_gate.specs.Worked.{IsLeft, ends}
 use Rattle.calypso_engine.specs.Running.{Counted}
 use Rattle.calypso_engine.specs.Traces.{traced, WaitsForWorkers}
 use Rattle.calypso_engine.specs.Teams.{ClaimedMore, Gathered}

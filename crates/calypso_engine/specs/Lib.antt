@@ -9,7 +9,3 @@ pub mod Running
 pub mod Steps
 pub mod Stepping
 pub mod Whole
-pub mod Simulated
-pub mod Scenes
-pub mod Resuming
-pub mod Simulating

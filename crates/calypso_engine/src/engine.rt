@@ -78,7 +78,7 @@ fn room_for(alloc: Global, code: &Verified, steps: bool) -> Result<Option<Image>
 }
 
 /// Where a run begins.
-pub(crate) fn first_standing(
+pub fn first_standing(
     alloc: Global,
     code: &Verified,
     options: &RunOptions<'_>,

@@ -35,7 +35,7 @@ pub struct Standing {
 }
 
 /// The widths of the blocks of the step that main opens.
-pub(crate) fn widths_of(alloc: Global, machine: &Machine, blocks: u32) -> Result<Vec<u32>, NoMemory>
+pub fn widths_of(alloc: Global, machine: &Machine, blocks: u32) -> Result<Vec<u32>, NoMemory>
     requires { blocks ≡ length machine.now.widths }
     ensures { IfOk result (λ widths. widths.items ≡ machine.now.widths) }
 {

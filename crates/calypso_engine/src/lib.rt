@@ -2,22 +2,16 @@
 //! main shows, and logs the history of each step.
 #![tactic(auto)]
 
-pub mod delivery;
 pub mod engine;
 pub mod error;
 pub mod event;
 pub mod gathering;
 pub mod line;
 pub mod options;
-pub mod play;
-pub mod scene;
-pub mod simulation;
 pub mod step;
 pub mod team;
 pub mod telling;
-pub mod turn;
 
 pub use engine::{RunReport, run};
 pub use error::RunError;
 pub use options::RunOptions;
-pub use simulation::{SIM_FUEL, sim};

@@ -4,3 +4,4 @@ pub mod ListLemmas
 pub mod RowLemmas
 pub mod SizeLemmas
 pub mod StatementSizes
+pub mod Targets

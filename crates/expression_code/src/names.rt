@@ -3,31 +3,35 @@
 ghost use Rattle.std.specs.Prelude.{◌≡◌, ◌+◌, IfOk, OnOk, List, ℕ, Some, None, if◌then◌else◌};
 ghost use Rattle.std.specs.Option.{option_or};
 ghost use Rattle.std.specs.Str.{bytes_eq};
+ghost use Rattle.type_check.specs.Places.{place_among};
 ghost use Rattle.csl_meaning.specs.Layout as layout;
-ghost use Rattle.expression_code.specs.Areas.{area_among};
+ghost use Rattle.compiled_code.specs.Values.{function_number};
+ghost use Rattle.expression_code.specs.Areas.{area_among, number_among};
 
 use crate::writer::{length_of, sum};
 use cal_terms::NoMemory;
 use csl_meaning::Area;
 use csl_tree::name::Text;
-use csl_tree::program::{ArraySize, Gives, Program};
-use indexmap::IndexMap;
+use csl_tree::program::{ArraySize, Function, Gives, Program, Shared};
 use std::alloc::Global;
+use std::collections::BTreeMap;
 use std::marker::Model;
 
-/// A program, and where its shared words lie. Contracts see it as the program.
+/// A program, where its shared words lie, and how many functions stand before each. Contracts see it as the program.
 #[derive(Drop)]
 pub struct Names<'a> {
     program: &'a Program,
-    areas: IndexMap<Vec<u8>, Area>,
+    areas: BTreeMap<Vec<u8>, Area>,
+    functions: BTreeMap<Vec<u8>, usize>,
 }
 
 impl<'a> Model for Names<'a> {
     ghost use Rattle.std.specs.Prelude.{◌≡◌, List, ℕ};
-    ghost use Rattle.expression_code.specs.Areas.{area_among};
+    ghost use Rattle.expression_code.specs.Areas.{area_among, number_among};
     ghost use Rattle.csl_tree.specs.declared.program.Program.{Program};
     ghost use Rattle.csl_tree.specs.contracts.program.Program as tree;
     ghost use Rattle.csl_meaning.specs.Layout.{area_of};
+    ghost use Rattle.compiled_code.specs.Values.{function_number};
 
     ghost Value = { Program };
 
@@ -35,7 +39,10 @@ impl<'a> Model for Names<'a> {
 
     ghost view = { λ n. n.program.now };
 
-    ghost invariant = { λ n. (name : List ℕ) → area_among n.areas.entries name ≡ area_of n.program.now.shared name };
+    ghost invariant = { λ n. record {
+      areas : (name : List ℕ) → area_among n.areas name ≡ area_of n.program.now.shared name;
+      functions : (name : List ℕ) → number_among n.functions n.program.now.functions name ≡ function_number n.program.now.functions name;
+    } };
 }
 
 impl<'a> Names<'a> {
@@ -50,14 +57,13 @@ impl<'a> Names<'a> {
     pub fn of(alloc: Global, program: &'a Program) -> Result<Names<'a>, NoMemory>
         ensures { IfOk result (λ n. n ≡ program.now) }
     {
-        let mut areas: IndexMap<Vec<u8>, Area> = IndexMap::new(alloc);
-        let mut first = 0u32;
-        for s in program.shared.as_slice() {
-            let items = items_in(&s.size)?;
-            add_area(alloc, &mut areas, &s.name.text, Area { first, items })?;
-            first = sum(first, items.unwrap_or(1))?;
-        }
-        Ok(Names { program, areas })
+        let areas = areas_of(alloc, program.shared.as_slice())?;
+        let functions = numbers_of(alloc, program.functions.as_slice())?;
+        Ok(Names {
+            program,
+            areas,
+            functions,
+        })
     }
 
     /// The program.
@@ -81,45 +87,89 @@ impl<'a> Names<'a> {
     }
 
     /// How many functions stand before the one with this name.
+    fn place(&self, name: &Text) -> usize
+        ensures { result ≡ function_number self.now.functions name.now }
+    {
+        match self.functions.get(name.as_slice()) {
+            Some(place) => *place,
+            None => self.program.functions.as_slice().len(),
+        }
+    }
+
+    /// How many functions stand before the one with this name.
     pub fn function_number(&self, name: &Text) -> Result<u32, NoMemory>
         ensures { IfOk result (λ n. n ≡ function_number self.now.functions name.now) }
     {
-        let functions = self.program.functions.as_slice();
-        for (i, f) in functions.iter().enumerate() {
-            if f.name.text.as_slice() == name.as_slice() {
-                return length_of(i);
-            }
-        }
-        length_of(functions.len())
+        length_of(self.place(name))
     }
 
     /// What the function with this name gives back.
     pub fn gives(&self, name: &Text) -> Gives
         ensures { result ≡ given_by (function_named self.now.functions name.now) }
     {
-        for f in self.program.functions.as_slice() {
-            if f.name.text.as_slice() == name.as_slice() {
-                return f.gives;
-            }
+        match self.program.functions.get(self.place(name)) {
+            Some(f) => f.gives,
+            None => Gives::Nothing,
         }
-        Gives::Nothing
     }
+}
+
+/// Where the words of each shared name lie.
+fn areas_of(alloc: Global, shared: &[Shared]) -> Result<BTreeMap<Vec<u8>, Area>, NoMemory>
+    ensures { IfOk result (λ areas. (name : List ℕ) → area_among areas name ≡ layout.area_of shared.now name) }
+{
+    let mut areas: BTreeMap<Vec<u8>, Area> = BTreeMap::new(alloc);
+    let mut first = 0u32;
+    for s in shared {
+        let items = items_in(&s.size)?;
+        add_area(alloc, &mut areas, &s.name.text, Area { first, items })?;
+        first = sum(first, items.unwrap_or(1))?;
+    }
+    Ok(areas)
 }
 
 /// One more shared name with its words. One that is here already keeps its own.
 fn add_area(
     alloc: Global,
-    areas: &mut IndexMap<Vec<u8>, Area>,
+    areas: &mut BTreeMap<Vec<u8>, Area>,
     name: &Text,
     area: Area,
 ) -> Result<(), NoMemory>
-    ensures { OnOk result ((other : List ℕ) → area_among areas.new.entries other ≡ option_or (area_among areas.old.entries other) (if bytes_eq name.now other then Some area else None)) }
+    ensures { OnOk result ((other : List ℕ) → area_among areas.new other ≡ option_or (area_among areas.old other) (if bytes_eq name.now other then Some area else None)) }
 {
     if areas.get(name.as_slice()).is_some() {
         return Ok(());
     }
     let key = Vec::from_slice(alloc, name.as_slice())?;
     areas.insert(key, area)?;
+    Ok(())
+}
+
+/// How many functions stand before each.
+fn numbers_of(alloc: Global, functions: &[Function]) -> Result<BTreeMap<Vec<u8>, usize>, NoMemory>
+    ensures { IfOk result (λ numbers. (name : List ℕ) → number_among numbers functions.now name ≡ function_number functions.now name) }
+{
+    let mut numbers: BTreeMap<Vec<u8>, usize> = BTreeMap::new(alloc);
+    for (i, f) in functions.iter().enumerate() {
+        add_number(alloc, &mut numbers, &f.name.text, i)?;
+    }
+    Ok(numbers)
+}
+
+/// One more function with its number. One that is here already keeps its own.
+fn add_number(
+    alloc: Global,
+    numbers: &mut BTreeMap<Vec<u8>, usize>,
+    name: &Text,
+    number: usize,
+) -> Result<(), NoMemory>
+    ensures { OnOk result ((other : List ℕ) → place_among numbers.new other ≡ option_or (place_among numbers.old other) (if bytes_eq name.now other then Some number else None)) }
+{
+    if numbers.get(name.as_slice()).is_some() {
+        return Ok(());
+    }
+    let key = Vec::from_slice(alloc, name.as_slice())?;
+    numbers.insert(key, number)?;
     Ok(())
 }
 

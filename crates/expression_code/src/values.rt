@@ -12,7 +12,6 @@ ghost use Rattle.expression_code.specs.Lists.{codes_of, right_code};
 
 use crate::names::Names;
 use crate::scope::Scope;
-use crate::sizes::value_size;
 use crate::writer::{length_of, sum};
 use bytecode::{Instr, PrintItem, Ty};
 use cal_terms::NoMemory;
@@ -130,7 +129,7 @@ fn push_right(
     }
 }
 
-/// Writes the right operand of an `&&`, which is skipped where the left one is false.
+/// Writes the right operand of an `&&`, which is skipped where the left one is false. The branch gets its place when the operand is written.
 #[cycle(write)]
 fn push_and(
     instrs: &mut Items<Instr>,
@@ -140,17 +139,18 @@ fn push_and(
 ) -> Result<(), NoMemory>
     ensures { OnOk result (instrs.new ≡ instrs.old ++ right_code And (length instrs.old) (size_of b.now) (λ at. values.code_of names.now scope.now.slots b.now at)) }
 {
-    let begin = sum(length_of(instrs.len())?, 1)?;
-    let no = sum(sum(begin, value_size(b)?)?, 1)?;
-    let end = sum(no, 1)?;
-    instrs.push(Instr::Branch(no))?;
+    let branch = instrs.len();
+    instrs.push(Instr::Branch(0))?;
     push_value(instrs, names, scope, b)?;
+    let no = sum(length_of(instrs.len())?, 1)?;
+    let end = sum(no, 1)?;
     instrs.push(Instr::Jump(end))?;
     instrs.push(Instr::False)?;
+    instrs.set(branch, Instr::Branch(no));
     Ok(())
 }
 
-/// Writes the right operand of an `||`, which is skipped where the left one is true.
+/// Writes the right operand of an `||`, which is skipped where the left one is true. The jump gets its place when the operand is written.
 #[cycle(write)]
 fn push_or(
     instrs: &mut Items<Instr>,
@@ -161,11 +161,14 @@ fn push_or(
     ensures { OnOk result (instrs.new ≡ instrs.old ++ right_code Or (length instrs.old) (size_of b.now) (λ at. values.code_of names.now scope.now.slots b.now at)) }
 {
     let other = sum(length_of(instrs.len())?, 3)?;
-    let end = sum(other, value_size(b)?)?;
     instrs.push(Instr::Branch(other))?;
     instrs.push(Instr::True)?;
-    instrs.push(Instr::Jump(end))?;
-    push_value(instrs, names, scope, b)
+    let jump = instrs.len();
+    instrs.push(Instr::Jump(0))?;
+    push_value(instrs, names, scope, b)?;
+    let end = length_of(instrs.len())?;
+    instrs.set(jump, Instr::Jump(end));
+    Ok(())
 }
 
 /// Writes the code of a place that is read.

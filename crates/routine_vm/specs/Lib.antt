@@ -1,3 +1,4 @@
+pub mod Kept
 pub mod Sites
 pub mod Frames
 pub mod States

@@ -3,10 +3,11 @@
 ghost use Rattle.std.specs.Prelude.{◌≡◌, ◌≤◌, ◌<◌, ◌++◌, ◌+◌, [], length, map, drop, IfOk};
 ghost use Rattle.machine_meaning.specs.Machine as machine;
 
+use crate::kept::Kept;
 use crate::locals::Locals;
 use crate::operands::Operands;
 use bytecode::{Code, Ty};
-use cal_base::{NoMemory, Val};
+use cal_base::NoMemory;
 use std::alloc::Global;
 
 /// What a call runs: main, a block or a function of the module.
@@ -27,22 +28,22 @@ pub struct Frame {
 }
 
 /// What a local begins as.
-fn first_value(kind: Ty) -> Val
+fn first_value(kind: Ty) -> Kept
     ensures { result ≡ machine.first_value kind }
 {
     match kind {
-        Ty::Int => Val::Int(0),
-        Ty::Bool => Val::Truth(false),
+        Ty::Int => Kept::int(0),
+        Ty::Bool => Kept::truth(false),
     }
 }
 
 /// Appends these values.
-fn push_given(locals: &mut Locals, given: &[Val])
+fn push_given(locals: &mut Locals, given: &[Kept])
     requires { length locals.old + length given.now ≤ 64 }
     ensures { locals.new ≡ locals.old ++ given.now }
 {
     for v in given {
-        locals.push(*v);
+        locals.push(v.again());
     }
 }
 
@@ -71,7 +72,7 @@ impl Frame {
     }
 
     /// Begins a call of this body, whose code this is, with these arguments.
-    pub fn begin(&mut self, body: Body, code: &Code, given: &[Val])
+    pub fn begin(&mut self, body: Body, code: &Code, given: &[Kept])
         requires params { code.now.params ≤ length code.now.locals }
         requires given { length given.now ≡ code.now.params }
         requires room { length code.now.locals ≤ 64 }

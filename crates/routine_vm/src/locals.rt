@@ -2,7 +2,8 @@
 
 ghost use Rattle.std.specs.Prelude.{◌≡◌, ◌≤◌, ◌<◌, ◌∷◌, ◌++◌, [], length, IfOk, Some, slice_get, slice_set};
 
-use cal_base::{NoMemory, Val};
+use crate::kept::Kept;
+use cal_base::NoMemory;
 use std::alloc::Global;
 use std::marker::Model;
 
@@ -12,7 +13,7 @@ const ROOM: usize = 64;
 /// The locals of a call, by their numbers from 0. All room is taken when they are made.
 #[derive(Drop)]
 pub struct Locals {
-    values: Vec<Val>,
+    values: Vec<Kept>,
 }
 
 impl Model for Locals {
@@ -41,7 +42,7 @@ impl Locals {
         self.values.clear();
     }
 
-    pub fn push(&mut self, v: Val)
+    pub fn push(&mut self, v: Kept)
         requires { length self.old < 64 }
         ensures { self.new ≡ self.old ++ v ∷ [] }
     {
@@ -51,14 +52,14 @@ impl Locals {
         }
     }
 
-    pub fn get(&self, l: usize) -> Val
+    pub fn get(&self, l: usize) -> Kept
         requires { l < length self.now }
         ensures { slice_get self.now l ≡ Some result }
     {
-        self.values[l]
+        self.values[l].again()
     }
 
-    pub fn set(&mut self, l: usize, v: Val)
+    pub fn set(&mut self, l: usize, v: Kept)
         requires { l < length self.old }
         ensures { self.new ≡ slice_set self.old l v }
     {

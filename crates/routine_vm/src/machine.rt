@@ -17,13 +17,14 @@ ghost use Rattle.routine_vm.specs.Held.{main_state, MayGoOn, event_at, IsTold, O
 use crate::event::{Item, MainEvent};
 use crate::frame::{Body, Frame};
 use crate::go::{Stop, go};
+use crate::kept::Kept;
 use crate::parts::Parts;
 use crate::run::{Run, spend};
 use crate::site::{InMain, InRoutine};
 use crate::taking::{take_items, take_widths};
 use crate::waiting::Waiting;
 use bytecode::{Instr, Module, PrintItem};
-use cal_base::{Cause, Image, NoMemory, RoutineEnd, Val, Words};
+use cal_base::{Cause, Image, NoMemory, RoutineEnd, Words};
 use code_verify::Verified;
 use std::alloc::Global;
 use std::marker::Model;
@@ -201,7 +202,7 @@ impl Machine {
         let m = code.module();
         mem::swap(&mut self.run.call, &mut self.apart);
         let main_fuel = mem::replace(&mut self.run.fuel, fuel);
-        let given = [Val::Int(i64::from(width)), Val::Int(i64::from(id))];
+        let given = [Kept::int(i64::from(width)), Kept::int(i64::from(id))];
         self.run.call.begin(
             Body::Block(block),
             &m.blocks.as_slice()[block as usize],

@@ -3,7 +3,8 @@
 ghost use Rattle.std.specs.Prelude.{◌≡◌, ◌≢◌, ◌≤◌, ◌∷◌, [], length, take, drop, reverse, IfOk, IsSome, Some};
 ghost use Rattle.machine_meaning.specs.Machine as machine;
 
-use cal_base::{NoMemory, Val};
+use crate::kept::Kept;
+use cal_base::NoMemory;
 use std::alloc::Global;
 use std::marker::Model;
 
@@ -13,7 +14,7 @@ const ROOM: usize = 1025;
 /// The operands of a call, that on top first. All room is taken when they are made.
 #[derive(Drop)]
 pub struct Operands {
-    values: Vec<Val>,
+    values: Vec<Kept>,
 }
 
 impl Model for Operands {
@@ -42,7 +43,7 @@ impl Operands {
         self.values.clear();
     }
 
-    pub fn push(&mut self, v: Val)
+    pub fn push(&mut self, v: Kept)
         requires { length self.old ≤ 1024 }
         ensures { self.new ≡ v ∷ self.old }
     {
@@ -53,7 +54,7 @@ impl Operands {
     }
 
     /// Takes the operand on top.
-    pub fn pop(&mut self) -> Val
+    pub fn pop(&mut self) -> Kept
         requires { self.old ≢ [] }
         ensures { self.old ≡ result ∷ self.new }
     {
@@ -68,10 +69,7 @@ impl Operands {
         requires { IsSome (machine.number self.old) }
         ensures { machine.number self.old ≡ Some (result, self.new) }
     {
-        match self.values.pop() {
-            Some(Val::Int(z)) => z,
-            _ => unreachable!(),
-        }
+        self.pop().as_int()
     }
 
     /// Takes the truth on top.
@@ -79,10 +77,7 @@ impl Operands {
         requires { IsSome (machine.truth self.old) }
         ensures { machine.truth self.old ≡ Some (result, self.new) }
     {
-        match self.values.pop() {
-            Some(Val::Truth(b)) => b,
-            _ => unreachable!(),
-        }
+        self.pop().as_truth()
     }
 
     /// Takes the two numbers on top, of which the second is on top.
@@ -100,15 +95,13 @@ impl Operands {
         requires { IsSome (machine.equal self.old) }
         ensures { machine.equal self.old ≡ Some (result, self.new) }
     {
-        match (self.values.pop(), self.values.pop()) {
-            (Some(Val::Int(y)), Some(Val::Int(x))) => x == y,
-            (Some(Val::Truth(y)), Some(Val::Truth(x))) => x == y,
-            _ => unreachable!(),
-        }
+        let y = self.pop();
+        let x = self.pop();
+        y.equals(&x)
     }
 
     /// The operands on top, that on top last.
-    pub fn last(&self, count: usize) -> &[Val]
+    pub fn last(&self, count: usize) -> &[Kept]
         requires { count ≤ length self.now }
         ensures { result.now ≡ reverse (take count self.now) }
     {

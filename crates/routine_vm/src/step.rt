@@ -2,6 +2,7 @@
 
 ghost use Rattle.std.specs.Prelude.{◌≡◌, ◌≢◌, ◌≤◌, ◌<◌, ◌+◌, ◌^◌, ◌∷◌, [], ◌↔◌, IsTrue, IsSome, Some, length, take, reverse, slice_get, map};
 ghost use Rattle.cal_base.specs.Stores as stores;
+ghost use Rattle.cal_base.specs.declared.value.Val.TheVariants as val;
 ghost use Rattle.machine_meaning.specs.Machine as machine;
 ghost use Rattle.routine_vm.specs.Frames.{behind};
 ghost use Rattle.routine_vm.specs.Sites.{MayUse};
@@ -12,10 +13,11 @@ ghost use Rattle.routine_vm.specs.Steps.{Steps, StepsAnywhere, HasStep, HasBodie
 
 use crate::arithmetic::{difference, item_at, negative, product, quotient, remainder, sum};
 use crate::frame::Frame;
+use crate::kept::Kept;
 use crate::run::{Led, Run, spend};
 use crate::site::Site;
 use bytecode::{Code, Gives, Instr, Module};
-use cal_base::{Cause, Overflow, Val};
+use cal_base::{Cause, Overflow};
 use cal_terms::limits::MOST_WORDS;
 
 /// Goes on behind the instruction.
@@ -29,7 +31,7 @@ fn on(call: &mut Frame) -> Led
 }
 
 /// Goes on behind the instruction, with this value on top.
-fn push(call: &mut Frame, v: Val) -> Led
+fn push(call: &mut Frame, v: Kept) -> Led
     requires place { call.old.place + 1 < 2 ^ 32 }
     requires room { length call.old.operands ≤ 1024 }
     ensures led { result ≡ Led.On }
@@ -47,7 +49,7 @@ fn push_number(call: &mut Frame, value: Result<i64, Cause>) -> Led
     ensures body { call.new.body ≡ call.old.body }
 {
     match value {
-        Ok(z) => push(call, Val::Int(z)),
+        Ok(z) => push(call, Kept::int(z)),
         Err(cause) => Led::Traps(cause),
     }
 }
@@ -67,12 +69,12 @@ fn read<W, S: Site<W>>(run: &mut Run, words: &mut W, a: u32) -> Led
     requires place { run.old.call.place + 1 < 2 ^ 32 }
     requires room { length run.old.call.operands ≤ 1024 }
     ensures led { result ≡ Led.On }
-    ensures run { run.new ≡ record run.old { call = behind run.old.call (Val.Int (stores.read_word (S.store words.old) a) ∷ run.old.call.operands) } }
+    ensures run { run.new ≡ record run.old { call = behind run.old.call (val.Int (stores.read_word (S.store words.old) a) ∷ run.old.call.operands) } }
     ensures words { S.store words.new ≡ S.store words.old }
     ensures leads { S.leads words.old words.new }
 {
     let z = S::read(words, a);
-    push(&mut run.call, Val::Int(z))
+    push(&mut run.call, Kept::int(z))
 }
 
 /// Writes a word and goes on, or traps.
@@ -155,9 +157,9 @@ fn constant(instr: &Instr, run: &mut Run) -> Led
     ensures bodies { HasBodiesOf run.old run.new }
 {
     match instr {
-        Instr::Int(z) => push(&mut run.call, Val::Int(*z)),
-        Instr::False => push(&mut run.call, Val::Truth(false)),
-        Instr::True => push(&mut run.call, Val::Truth(true)),
+        Instr::Int(z) => push(&mut run.call, Kept::int(*z)),
+        Instr::False => push(&mut run.call, Kept::truth(false)),
+        Instr::True => push(&mut run.call, Kept::truth(true)),
         Instr::Load(l) => {
             let v = run.call.locals.get(*l as usize);
             push(&mut run.call, v)
@@ -216,31 +218,31 @@ fn compare(instr: &Instr, run: &mut Run) -> Led
     match instr {
         Instr::Not => {
             let b = run.call.operands.truth();
-            push(&mut run.call, Val::Truth(!b))
+            push(&mut run.call, Kept::truth(!b))
         }
         Instr::Eq => {
             let same = run.call.operands.equal();
-            push(&mut run.call, Val::Truth(same))
+            push(&mut run.call, Kept::truth(same))
         }
         Instr::Ne => {
             let same = run.call.operands.equal();
-            push(&mut run.call, Val::Truth(!same))
+            push(&mut run.call, Kept::truth(!same))
         }
         Instr::Lt => {
             let (x, y) = run.call.operands.numbers();
-            push(&mut run.call, Val::Truth(x < y))
+            push(&mut run.call, Kept::truth(x < y))
         }
         Instr::Le => {
             let (x, y) = run.call.operands.numbers();
-            push(&mut run.call, Val::Truth(x <= y))
+            push(&mut run.call, Kept::truth(x <= y))
         }
         Instr::Gt => {
             let (x, y) = run.call.operands.numbers();
-            push(&mut run.call, Val::Truth(x > y))
+            push(&mut run.call, Kept::truth(x > y))
         }
         Instr::Ge => {
             let (x, y) = run.call.operands.numbers();
-            push(&mut run.call, Val::Truth(x >= y))
+            push(&mut run.call, Kept::truth(x >= y))
         }
         _ => unreachable!(),
     }

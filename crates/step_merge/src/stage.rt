@@ -102,10 +102,7 @@ impl Stage {
         ensures size { IfOk result (λ stage. size_of stage ≡ n) }
     {
         let words = image.len();
-        let mut kinds = Vec::new(alloc);
-        for a in 0..words {
-            kinds.push(image.kind(a))?;
-        }
+        let kinds = Vec::from_slice(alloc, image.kinds())?;
         Ok(Stage {
             kinds,
             laid: vec![in alloc; false; n as usize]?,

@@ -1,11 +1,5 @@
-//! Worked rows of the outside, memory, pages and steps. The tests stand here, since a crate that has tests is proved twice.
+//! Worked rows of steps. The tests stand here, since a crate that has tests is proved twice.
 #![tactic(auto)]
 
-#[cfg(test)]
-mod images;
-#[cfg(test)]
-mod outside;
-#[cfg(test)]
-mod pages;
 #[cfg(test)]
 mod steps;

@@ -3,24 +3,46 @@
 use crate::names::Declaration;
 use cal_terms::NoMemory;
 use csl_tree::name::{Name, Text};
-use indexmap::IndexMap;
 use std::alloc::Global;
+use std::collections::BTreeMap;
 use std::marker::Model;
 
+/// A visible name, and what it stands for.
+#[derive(Drop)]
+struct Entry {
+    name: Text,
+    declaration: Declaration,
+}
+
+impl Model for Entry {
+    ghost use Rattle.std.specs.Prelude.{List, ℕ};
+    ghost use Rattle.type_check.specs.declared.names.Declaration.{Declaration};
+
+    ghost Value = { List ℕ × Declaration };
+
+    ghost view = { λ e. (e.name, e.declaration) };
+}
+
 /// What each visible name stands for, in the order of declaration.
+///
+/// Each visible name has its place among the entries in `places`. A name that is no longer visible may have a place there too:
+/// none, or one where another name stands now.
 #[derive(Drop)]
 pub struct Table {
     alloc: Global,
-    entries: IndexMap<Vec<u8>, Declaration>,
+    entries: Vec<Entry>,
+    places: BTreeMap<Vec<u8>, usize>,
 }
 
 impl Model for Table {
     ghost use Rattle.type_check.specs.Names.{Names};
-    ghost use Rattle.std.specs.Prelude.{map};
+    ghost use Rattle.type_check.specs.Places.{HavePlaces};
 
     ghost Value = { Names };
 
-    ghost view = { λ t. map (λ e. (e.0.items, e.1)) t.entries.entries };
+    ghost view = { λ t. t.entries.items };
+
+    ghost invariant = { λ t. HavePlaces t.places t.entries.items };
 }
 
 impl Table {
@@ -33,7 +55,8 @@ impl Table {
     {
         Table {
             alloc,
-            entries: IndexMap::new(alloc),
+            entries: Vec::new(alloc),
+            places: BTreeMap::new(alloc),
         }
     }
 
@@ -48,7 +71,13 @@ impl Table {
     pub fn get(&self, name: &Name) -> Option<&Declaration>
         ensures { option_copied result ≡ meant self.now name.now }
     {
-        self.entries.get(name.text.as_slice())
+        let place = self.places.get(name.text.as_slice())?;
+        let entry = self.entries.get(*place)?;
+        if entry.name.as_slice() == name.text.as_slice() {
+            Some(&entry.declaration)
+        } else {
+            None
+        }
     }
 
     /// A name that is not here yet.
@@ -58,7 +87,12 @@ impl Table {
         ensures err { OnErr result (self.new ≡ self.old) }
     {
         let key = Vec::from_slice(self.alloc, name.text.as_slice())?;
-        self.entries.insert(key, declaration)?;
+        let text = Text::from_slice(self.alloc, name.text.as_slice())?;
+        self.places.insert(key, self.entries.len())?;
+        self.entries.push(Entry {
+            name: text,
+            declaration,
+        })?;
         Ok(())
     }
 

@@ -3,6 +3,7 @@
 use cal_base::{Gate, NoMemory, OpenGate, Point};
 use itoa::Buffer;
 use row_calls::run_words;
+use std::alloc::Global;
 use std::sync::atomic::{AtomicU64, Ordering};
 use std::test::Fail;
 use std::thread;
@@ -290,38 +291,6 @@ fn scripts_and_logs_that_fail(rt: HostRuntime) -> Result<(), Fail> {
     Ok(())
 }
 
-#[test]
-fn generated_programs(rt: HostRuntime) -> Result<(), Fail> {
-    let alloc = rt.alloc();
-    let generated = run_words(&rt, alloc, &["gen", "7", "1"], (b"", b""), 0, &OpenGate)?;
-    assert_eq!(rt; generated.called.status, 0);
-    let text = generated.called.out.bytes();
-    assert!(rt; text.starts_with(b"shared {\nint a[256] = {7, 14, 21, "));
-    let again = run_words(&rt, alloc, &["run", "p.csl"], (text, b""), 0, &OpenGate)?;
-    assert_eq!(rt;
-        again.called.out.bytes(),
-        b"sum 119312 total 119312 first 281\n".as_slice()
-    );
-    assert_eq!(rt; again.called.status, 0);
-    let runs: [([&str; 3], &[u8]); 2] = [
-        (
-            ["selfrun", "7", "1"],
-            b"sum 119312 total 119312 first 281\n",
-        ),
-        (
-            ["selfrun", "7", "64"],
-            b"sum 190992 total 9901056 first 406\n",
-        ),
-    ];
-    for (words, out) in runs {
-        let ran = run_words(&rt, alloc, &words, (b"", b""), 0, &OpenGate)?;
-        assert_eq!(rt; ran.called.out.bytes(), out);
-        assert_eq!(rt; ran.called.err.bytes(), b"".as_slice());
-        assert_eq!(rt; ran.called.status, 0);
-    }
-    Ok(())
-}
-
 /// Counts the points that each of four workers passes.
 #[derive(Drop)]
 struct Counting {
@@ -369,14 +338,20 @@ fn has(text: &[u8], part: &[u8]) -> bool {
     text.windows(part.len().max(1)).any(|piece| piece == part)
 }
 
-#[test]
-fn all_workers_stop(rt: HostRuntime) -> Result<(), Fail> {
-    let alloc = rt.alloc();
+/// The script by which each of 32 workers stops at its second claim.
+pub(crate) fn all_stop(alloc: Global) -> Result<Vec<u8>, NoMemory> {
     let mut script = Vec::new(alloc);
     for number in 0..32u64 {
         add(&mut script, b"[[worker]]\nnumber = ", number)?;
         script.extend_from_slice(b"\nstop_at = 2\n")?;
     }
+    Ok(script)
+}
+
+#[test]
+fn all_workers_stop(rt: HostRuntime) -> Result<(), Fail> {
+    let alloc = rt.alloc();
+    let script = all_stop(alloc)?;
     let words = [
         "run",
         "p.csl",

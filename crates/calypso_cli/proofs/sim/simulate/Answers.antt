@@ -5,7 +5,7 @@ use Rattle.cal_base.specs.Main.{Meaning}
 use Rattle.cal_base.specs.Text.{text_of}
 use Rattle.csl_meaning.specs.Meaning.{meaning}
 use Rattle.calypso_engine.specs.Traces.{trace_of}
-use Rattle.calypso_engine.specs.Simulated.{simulated}
+use Rattle.event_engine.specs.Simulated.{simulated}
 use Rattle.calypso_cli.specs.Commands.{IsSimulated, ended, run_of, usual_fuel}
 use Rattle.calypso_cli.specs.Promise.{objects_of}
 use Rattle.calypso_cli.specs.Seen.{ending_seen}

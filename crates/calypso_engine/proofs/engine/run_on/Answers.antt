@@ -1,4 +1,4 @@
-use Rattle.std.proofs.Common.{Option, None, Some, Ok, Err, sym, ap, subst, arith}
+use Rattle.std.proofs.Common.{Option, Ok, sym, ap, subst, arith}
 use Rattle.std.proofs.lemmas.Result.{err_from_is_err_and}
 use Rattle.cal_base.specs.declared.ends.RunEnd.{RunEnd}
 use Rattle.calypso_engine.specs.Asked.{outside_of}

@@ -1,10 +1,10 @@
-use Rattle.std.proofs.Common.{◌≡◌, List, ℕ, Err, map, refl, sym, ap, subst, ◌∙◌}
+use Rattle.std.proofs.Common.{Err, map, refl, sym, ap, subst, ◌∙◌}
 use Rattle.std.proofs.lemmas.Result.{err_from_is_err_and}
 use Rattle.cal_base.specs.declared.ends.RunEnd.TheVariants.{Done, MainFault}
 use Rattle.cal_base.specs.Main.{Main}
 use Rattle.cal_base.specs.Printing.{line_of}
 use Rattle.routine_vm.specs.Events.{piece_of}
-use Rattle.calypso_engine.specs.Asked.{Outside, outside_of}
+use Rattle.calypso_engine.specs.Asked.{outside_of}
 use Rattle.calypso_engine.specs.Running.{rest_of, Goes}
 use Rattle.calypso_engine.specs.declared.error.RunError.{RunError}
 use Rattle.calypso_engine.specs.declared.event.Standing.{Standing}

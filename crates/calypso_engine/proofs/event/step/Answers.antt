@@ -1,23 +1,22 @@
-use Rattle.std.proofs.Common.{◌≡◌, ◌+◌, ℕ, suc, List, Ok, Err, IfSome, refl, sym, ap, subst, ◌∙◌, arith}
+use Rattle.std.proofs.Common.{◌≡◌, ◌+◌, ℕ, List, Ok, Err, refl, sym, ap, subst, ◌∙◌}
 use Rattle.std.proofs.lemmas.Result.{err_from_is_err_and}
 use Rattle.std.specs.Io.KnownBytes.{Appends}
 use Rattle.cal_base.specs.Contents.{Told}
 use Rattle.cal_base.specs.Claims.{size_of, meant}
-use Rattle.cal_base.specs.Memory.{Memory}
-use Rattle.cal_base.specs.Main.{Main, step_event}
+use Rattle.cal_base.specs.Main.{step_event}
 use Rattle.cal_base.specs.Text.{event_text}
 use Rattle.step_core.specs.Calls.{IsEnd}
 use Rattle.engine_laws.specs.Steps.{step_job}
 use Rattle.machine_meaning.specs.Meaning.{main_of}
 use Rattle.routine_vm.specs.Held.{main_state}
-use Rattle.run_report.specs.Logs.{TracedStep, step_log}
+use Rattle.run_report.specs.Logs.{step_log}
 use Rattle.calypso_engine.specs.Asked.{log_of, Outside, outside_of}
 use Rattle.calypso_engine.specs.Logs.{Logs, LogsFront}
 use Rattle.calypso_engine.specs.Kept.{lines_behind, lines_of_end}
 use Rattle.calypso_engine.specs.Running.{job_here, opening_here}
 use Rattle.calypso_engine.specs.Steps.{WasClosed}
 use Rattle.calypso_engine.specs.declared.error.RunError.{RunError}
-use Rattle.calypso_engine.proofs.Events.{gave_nothing, closed_went, closed_came, closed_gave, rest_behind}
+use Rattle.calypso_engine.proofs.Events.{gave_nothing, closed_went, closed_came, closed_gave}
 use Rattle.calypso_engine.proofs.Kept.{kept_lines}
 use Rattle.calypso_engine.proofs.Logging.{log_holds}
 use Rattle.calypso_engine.proofs.Teams.{team_tallies}

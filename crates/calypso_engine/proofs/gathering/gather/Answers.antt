@@ -1,4 +1,4 @@
-use Rattle.std.proofs.Common.{◌≡◌, ℕ, ◌+◌, ◌*◌, ◌<◌, ◌≤◌, length, sum_by, sym, ap, ◌∙◌, arith}
+use Rattle.std.proofs.Common.{◌+◌, ◌≤◌, length, sum_by, sym, ap, ◌∙◌}
 use Rattle.step_board.specs.Amounts.{Amounts}
 use Rattle.cal_base.specs.Claims.{size_of}
 use Rattle.worker_gate.specs.Worked.{late, ends, total}

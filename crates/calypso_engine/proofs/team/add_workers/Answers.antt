@@ -1,4 +1,4 @@
-use Rattle.std.proofs.Common.{◌≡◌, ◌+◌, ℕ, List, [], ◌∷◌, ◌++◌, refl, sym, ap, subst, ◌∙◌, arith}
+use Rattle.std.proofs.Common.{◌≡◌, ◌+◌, ℕ, List, refl, sym, subst, ◌∙◌, arith}
 use Rattle.worker_gate.specs.Working.{WorkerState}
 use Rattle.calypso_engine.specs.Beginning.{AreBegun}
 use Rattle.calypso_engine.proofs.Beginning.{begun_none, begun_push}

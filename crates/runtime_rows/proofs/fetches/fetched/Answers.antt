@@ -1,7 +1,7 @@
 use Rattle.std.proofs.Common.{◌≤◌, List, sym, ap, ◌∙◌, subst, arith}
 use Rattle.std.specs.List.{AllByRecursion}
 use Rattle.event_world.specs.World.{Delivery, freed}
-use Rattle.calypso_engine.proofs.Scenes.{first_modes}
+use Rattle.event_engine.proofs.Scenes.{first_modes}
 use Rattle.runtime_rows.proofs.fetches.fetched.Goals as goal
 
 pub play_step-played-requires-clause-scene : goal.play_step-played-requires-clause-scene

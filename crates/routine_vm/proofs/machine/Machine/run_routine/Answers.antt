@@ -37,7 +37,7 @@ go-requires-clause-ready g c =
     let within : c.args.block < length m.blocks = subst (λ (x : Module). c.args.block < length x.blocks) (sym c.module-m.ensures.same) c.requires.block in
     let at = block_there m.blocks c.args.block block within (rw c.as_slice.ensures at c.index-as_slice-block.is) in
     let call : c.begin.new.self ≡ begun_frame (Block c.args.block) block (Int (pos c.args.width) ∷ Int (pos c.args.id) ∷ []) =
-    rw (sym c.from.ensures, sym c.from-2.ensures) (rw (to_z-of_z w64 c.from.result (search rules), to_z-of_z w64 c.from-2.result (search rules)) at c.begin.ensures)
+    rw (sym c.from.ensures, sym c.from-2.ensures) (rw (c.int.ensures, c.int-2.ensures, to_z-of_z w64 c.from.result (search rules), to_z-of_z w64 c.from-2.result (search rules)) at c.begin.ensures)
     in
     let kinds = c.requires.kinds ∙ ap (λ (x : Module). kinds_of (module_memory x)) (sym c.module-m.ensures.same) in
     routine_ready m ok c.args.block block at c.args.width c.args.id c.args.fuel (g.M.Words.opening c.args.mem.now) (g.M.Words.written c.args.mem.now) c.requires.written

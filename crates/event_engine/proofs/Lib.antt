@@ -1,0 +1,4 @@
+pub mod Resuming
+pub mod Simulating
+pub mod Scenes
+pub mod Playing

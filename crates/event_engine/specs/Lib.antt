@@ -1,0 +1,4 @@
+pub mod Simulated
+pub mod Scenes
+pub mod Resuming
+pub mod Simulating
