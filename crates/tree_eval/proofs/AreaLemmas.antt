@@ -1,9 +1,7 @@
 -- The words of shared names: what a look-up finds as names are added.
-use Rattle.std.proofs.Common.{◌≡◌, ◌≤◌, ◌+◌, ℕ, map, arith, Bool, true, false, cond, if◌then◌else◌, List, [], ◌∷◌, ◌++◌, Option, Some, None, Bor, is_some, refl, sym, ap, subst, ◌∙◌}
-use Rattle.std.specs.Map.{lookup}
+use Rattle.std.proofs.Common.{◌≡◌, ◌≤◌, ◌+◌, ℕ, map, arith, Bool, true, false, cond, if◌then◌else◌, List, [], ◌∷◌, Option, Some, None, Bor, is_some, refl, sym, ap, subst, ◌∙◌}
 use Rattle.std.specs.Option.{option_or, option_copied, unwrap_or}
 use Rattle.std.specs.Str.{bytes_eq}
-use Rattle.std.proofs.lemmas.Cmp.{nat_list_eq_equiv}
 use Rattle.std.proofs.lemmas.Slice.Eq.{bytes_eq-Decides}
 use Rattle.csl_meaning.specs.declared.state.Area.{Area}
 use Rattle.csl_tree.specs.declared.program.Shared.{Shared}
@@ -12,52 +10,33 @@ use Rattle.csl_meaning.specs.Value.{declared}
 use Rattle.tree_eval.specs.Fits.{words_of}
 use Rattle.tree_eval.proofs.Telling.{sum_cons}
 
-or_none : {T : Type 0} (o : Option T) → option_or o None ≡ o
-or_none None = refl
-or_none (Some x) = refl
-
-or_chosen : {T : Type 0} (b : Bool) (x : T) (r s t : Option T) → r ≡ option_or s t → cond b (Some x) r ≡ option_or (cond b (Some x) s) t
-or_chosen true x r s t e = refl
-or_chosen false x r s t e = e
-
--- a look-up in two lists
-lookup-both : {K X : Type 0} (test : K → Bool) (xs ys : List (K × X)) → lookup test (xs ++ ys) ≡ option_or (lookup test xs) (lookup test ys)
-lookup-both test [] ys = refl
-lookup-both test (x ∷ xs) ys = or_chosen (test x.0) x.1 _ _ _ (lookup-both test xs ys)
-
--- one more name with its words
-pub area-added : (areas : List (Text × Area)) (name other : Text) (area : Area)
-    → lookup (bytes_eq other) (areas ++ (name, area) ∷ []) ≡ option_or (lookup (bytes_eq other) areas) (if bytes_eq name other then Some area else None)
-area-added areas name other area =
-    lookup-both (bytes_eq other) areas ((name, area) ∷ [])
-    ∙ ap (λ b. option_or (lookup (bytes_eq other) areas) (cond b (Some area) None)) (nat_list_eq_equiv.symm other name)
-
--- a name that has words keeps them
-area-kept : (areas : List (Text × Area)) (name other : Text) (area old : Area) → lookup (bytes_eq name) areas ≡ Some old
-    → lookup (bytes_eq other) areas ≡ option_or (lookup (bytes_eq other) areas) (if bytes_eq name other then Some area else None)
-area-kept areas name other area old e = by (bytes_eq name other) refl
+-- a name under which something is kept keeps it
+pub kept : {X : Type 0} (f : Text → Option X) (name other : Text) (x : X) → is_some (f name) ≡ true → f other ≡ option_or (f other) (if bytes_eq name other then Some x else None)
+kept {X} f name other x there = by (f other) refl (bytes_eq name other) refl
   where
-    by : (b : Bool) → bytes_eq name other ≡ b → lookup (bytes_eq other) areas ≡ option_or (lookup (bytes_eq other) areas) (if bytes_eq name other then Some area else None)
-    by true p =
-        let there : lookup (bytes_eq other) areas ≡ Some old = subst (λ (n : Text). lookup (bytes_eq n) areas ≡ Some old) ((bytes_eq-Decides name other).0 p) e in
-        there ∙ sym (ap (λ r. option_or r (if bytes_eq name other then Some area else None)) there)
-    by false p = sym (ap (λ b. option_or (lookup (bytes_eq other) areas) (if b then Some area else None)) p ∙ or_none _)
+    by : (o : Option X) → f other ≡ o → (b : Bool) → bytes_eq name other ≡ b → o ≡ option_or o (if b then Some x else None)
+    by (Some y) p b q = refl
+    by None p false q = refl
+    by None p true q = let never : false ≡ true = sym (ap is_some p) ∙ sym (ap (λ n. is_some (f n)) ((bytes_eq-Decides name other).0 q)) ∙ there in cc
 
-pub area-there : (areas : List (Text × Area)) (name other : Text) (area : Area) → is_some (lookup (bytes_eq name) areas) ≡ true
-    → lookup (bytes_eq other) areas ≡ option_or (lookup (bytes_eq other) areas) (if bytes_eq name other then Some area else None)
-area-there areas name other area e = by (lookup (bytes_eq name) areas) refl
+-- one more name
+pub added : {X : Type 0} (f g : Text → Option X) (name other : Text) (x : X) → f name ≡ None → g other ≡ cond (bytes_eq name other) (Some x) (f other)
+    → g other ≡ option_or (f other) (if bytes_eq name other then Some x else None)
+added {X} f g name other x absent e = e ∙ by (f other) refl (bytes_eq name other) refl
   where
-    by : (o : Option Area) → lookup (bytes_eq name) areas ≡ o → lookup (bytes_eq other) areas ≡ option_or (lookup (bytes_eq other) areas) (if bytes_eq name other then Some area else None)
-    by None p = let h : false ≡ true = sym (ap is_some p) ∙ e in cc
-    by (Some old) p = area-kept areas name other area old p
+    by : (o : Option X) → f other ≡ o → (b : Bool) → bytes_eq name other ≡ b → cond b (Some x) o ≡ option_or o (if b then Some x else None)
+    by None p true q = refl
+    by None p false q = refl
+    by (Some y) p false q = refl
+    by (Some y) p true q = let never : None ≡ Some y = sym absent ∙ ap f ((bytes_eq-Decides name other).0 q) ∙ p in absurd cc
 
 -- what isn't there
-pub none_is : {T : Type 0} (o : Option T) → is_some o ≡ false → o ≡ None
+pub none_is : {X : Type 0} (o : Option X) → is_some o ≡ false → o ≡ None
 none_is None e = refl
 none_is (Some x) e = cc
 
 -- whether a value is there, seen through its reference
-pub copied-is_some : {T : Type 0} (o : Option (Bor T)) → is_some (option_copied o) ≡ is_some o
+pub copied-is_some : {X : Type 0} (o : Option (Bor X)) → is_some (option_copied o) ≡ is_some o
 copied-is_some None = refl
 copied-is_some (Some x) = refl
 
@@ -75,7 +54,8 @@ within_from first [] name room = omega arith
 within_from first (s ∷ rest) name room =
     by (bytes_eq s.name.text name) (within_from (first + words_in s) rest name (omega (arith, room, sum_cons (words_in s) (map words_in rest))))
   where
-    by : (b : Bool) → IsWithin (area_from (first + words_in s) rest name) → IsWithin (if b then Some (record { first = first; items = items_in s.size }) else area_from (first + words_in s) rest name)
+    by : (b : Bool) → IsWithin (area_from (first + words_in s) rest name)
+        → IsWithin (if b then Some (record { first = first; items = items_in s.size }) else area_from (first + words_in s) rest name)
     by true h = omega (arith, room, sum_cons (words_in s) (map words_in rest), no_more (items_in s.size))
     by false h = h
 

@@ -65,7 +65,8 @@ pub fn pieces(
     world: &mut World,
 ) -> Result<(), Halt>
     requires { FitsMemory p.now.shared }
-    ensures follows { AppendsAll (meaning.pieces p.now (calls_to p.now most_levels) locals.now items.now) texts.old world.old result texts.new world.new }
+    ensures follows { AppendsAll (meaning.pieces p.now (calls_to p.now most_levels) locals.now items.now) texts.old
+        world.old result texts.new world.new }
     ensures fuel { world.new.fuel ≤ world.old.fuel }
     ensures stays { stays world.new ≡ stays world.old }
 {

@@ -38,7 +38,8 @@ fn main_value(
 ) -> Result<Val, MainHalt>
     requires fits { FitsMemory p.now.shared }
     requires main { IsMain world.old }
-    ensures tells { (text : Option (List ℕ)) → TellsOf (spec.value_of p.now (calls_to p.now most_levels) locals.now e.now world.old) result world.new text text }
+    ensures tells { (text : Option (List ℕ)) → TellsOf
+        (spec.value_of p.now (calls_to p.now most_levels) locals.now e.now world.old) result world.new text text }
     ensures quiet { IsErrOf result out_failed → ⊥ }
     ensures goes_on { OnOk result (GoesOn world.old world.new) }
 {
@@ -72,7 +73,9 @@ fn plain_statement(
 ) -> Result<Ending, MainHalt>
     requires fits { FitsMemory p.now.shared }
     requires main { IsMain world.old }
-    ensures tells { (text : Option (List ℕ)) → Tells (effects.effect p.now (calls_to p.now most_levels) effects.nowhere s.now.form locals.old world.old) result locals.new world.new text text }
+    ensures tells { (text : Option (List ℕ)) → Tells
+        (effects.effect p.now (calls_to p.now most_levels) effects.nowhere s.now.form locals.old world.old) result
+        locals.new world.new text text }
     ensures quiet { IsErrOf result out_failed → ⊥ }
     ensures goes_on { OnOk result (GoesOn world.old world.new) }
 {
@@ -115,7 +118,8 @@ fn print<S: Sink>(
 ) -> Result<Ending, MainHalt>
     requires fits { FitsMemory p.now.shared }
     requires main { IsMain world.old }
-    ensures tells { Tells (in_main p.now fuel (Printing items.now) locals.now world.old) result locals.now world.new (S.written out.old) (S.written out.new) }
+    ensures tells { Tells (in_main p.now fuel (Printing items.now) locals.now world.old) result locals.now world.new
+        (S.written out.old) (S.written out.new) }
     ensures later { S.faults out.old ≤ S.faults out.new }
     ensures failed { OutRose result (S.faults out.old) (S.faults out.new) }
     ensures goes_on { OnOk result (GoesOn world.old world.new) }
@@ -138,7 +142,9 @@ fn main_statement<S: Sink>(
 ) -> Result<Ending, MainHalt>
     requires fits { FitsMemory p.now.shared }
     requires main { IsMain world.old }
-    ensures tells { Tells (effects.effect p.now (calls_to p.now most_levels) (in_main p.now fuel) s.now.form locals.old world.old) result locals.new world.new (S.written out.old) (S.written out.new) }
+    ensures tells { Tells
+        (effects.effect p.now (calls_to p.now most_levels) (in_main p.now fuel) s.now.form locals.old world.old)
+        result locals.new world.new (S.written out.old) (S.written out.new) }
     ensures later { S.faults out.old ≤ S.faults out.new }
     ensures failed { OutRose result (S.faults out.old) (S.faults out.new) }
     ensures goes_on { OnOk result (GoesOn world.old world.new) }
@@ -197,7 +203,9 @@ pub fn main_statements<S: Sink>(
 ) -> Result<Ending, MainHalt>
     requires fits { FitsMemory p.now.shared }
     requires main { IsMain world.old }
-    ensures tells { Tells (effects.statements p.now (calls_to p.now most_levels) (in_main p.now fuel) all.now locals.old world.old) result locals.new world.new (S.written out.old) (S.written out.new) }
+    ensures tells { Tells
+        (effects.statements p.now (calls_to p.now most_levels) (in_main p.now fuel) all.now locals.old world.old)
+        result locals.new world.new (S.written out.old) (S.written out.new) }
     ensures later { S.faults out.old ≤ S.faults out.new }
     ensures failed { OutRose result (S.faults out.old) (S.faults out.new) }
     ensures goes_on { OnOk result (GoesOn world.old world.new) }
@@ -225,7 +233,10 @@ fn main_choose<S: Sink>(
 ) -> Result<Ending, MainHalt>
     requires fits { FitsMemory p.now.shared }
     requires main { IsMain world.old }
-    ensures tells { Tells (chosen p.now (calls_to p.now most_levels) (in_main p.now fuel) arms.now (last_block p.now (calls_to p.now most_levels) (in_main p.now fuel) last.now) locals.old world.old) result locals.new world.new (S.written out.old) (S.written out.new) }
+    ensures tells { Tells
+        (chosen p.now (calls_to p.now most_levels) (in_main p.now fuel) arms.now
+        (last_block p.now (calls_to p.now most_levels) (in_main p.now fuel) last.now) locals.old world.old) result
+        locals.new world.new (S.written out.old) (S.written out.new) }
     ensures later { S.faults out.old ≤ S.faults out.new }
     ensures failed { OutRose result (S.faults out.old) (S.faults out.new) }
     ensures goes_on { OnOk result (GoesOn world.old world.new) }
@@ -255,7 +266,9 @@ fn main_block<S: Sink>(
 ) -> Result<Ending, MainHalt>
     requires fits { FitsMemory p.now.shared }
     requires main { IsMain world.old }
-    ensures tells { Tells (effects.scoped (effects.statements p.now (calls_to p.now most_levels) (in_main p.now fuel) body.now) locals.old world.old) result locals.new world.new (S.written out.old) (S.written out.new) }
+    ensures tells { Tells
+        (effects.scoped (effects.statements p.now (calls_to p.now most_levels) (in_main p.now fuel) body.now)
+        locals.old world.old) result locals.new world.new (S.written out.old) (S.written out.new) }
     ensures later { S.faults out.old ≤ S.faults out.new }
     ensures failed { OutRose result (S.faults out.old) (S.faults out.new) }
     ensures goes_on { OnOk result (GoesOn world.old world.new) }
@@ -281,7 +294,11 @@ fn main_turns<S: Sink>(
 ) -> Result<Ending, MainHalt>
     requires fits { FitsMemory p.now.shared }
     requires main { IsMain world.old }
-    ensures tells { Tells (effects.loop (λ inner. spec.value_of p.now (calls_to p.now most_levels) inner test.now) (effects.scoped (effects.statements p.now (calls_to p.now most_levels) (in_main p.now fuel) body.now)) (effects.step_of p.now (calls_to p.now most_levels) (in_main p.now fuel) (option_copied next.entry)) locals.old world.old) result locals.new world.new (S.written out.old) (S.written out.new) }
+    ensures tells { Tells
+        (effects.loop (λ inner. spec.value_of p.now (calls_to p.now most_levels) inner test.now)
+        (effects.scoped (effects.statements p.now (calls_to p.now most_levels) (in_main p.now fuel) body.now))
+        (effects.step_of p.now (calls_to p.now most_levels) (in_main p.now fuel) (option_copied next.entry))
+        locals.old world.old) result locals.new world.new (S.written out.old) (S.written out.new) }
     ensures later { S.faults out.old ≤ S.faults out.new }
     ensures failed { OutRose result (S.faults out.old) (S.faults out.new) }
     ensures goes_on { OnOk result (GoesOn world.old world.new) }
@@ -314,7 +331,9 @@ fn main_step<S: Sink>(
 ) -> Result<(), MainHalt>
     requires fits { FitsMemory p.now.shared }
     requires main { IsMain world.old }
-    ensures tells { TellsLocals (effects.step_of p.now (calls_to p.now most_levels) (in_main p.now fuel) (option_copied next.entry) locals.old world.old) result locals.new world.new (S.written out.old) (S.written out.new) }
+    ensures tells { TellsLocals
+        (effects.step_of p.now (calls_to p.now most_levels) (in_main p.now fuel) (option_copied next.entry) locals.old
+        world.old) result locals.new world.new (S.written out.old) (S.written out.new) }
     ensures later { S.faults out.old ≤ S.faults out.new }
     ensures failed { OutRose result (S.faults out.old) (S.faults out.new) }
     ensures goes_on { OnOk result (GoesOn world.old world.new) }

@@ -14,9 +14,9 @@ use cal_terms::limits::MOST_WORDS;
 use csl_meaning::{Area, Local};
 use csl_tree::name::Text;
 use csl_tree::program::{ArraySize, Function, Program};
-use indexmap::IndexMap;
 use sqlite_items::Items;
 use std::alloc::Global;
+use std::collections::BTreeMap;
 use std::marker::Model;
 
 fn same_text(a: &Text, b: &Text) -> bool
@@ -90,7 +90,7 @@ pub fn items_in(size: &Option<ArraySize>) -> Option<u32>
 #[derive(Drop)]
 pub struct Names<'a> {
     program: &'a Program,
-    areas: IndexMap<Vec<u8>, Area>,
+    areas: BTreeMap<Vec<u8>, Area>,
 }
 
 impl<'a> Model for Names<'a> {
@@ -106,7 +106,7 @@ impl<'a> Model for Names<'a> {
 
     ghost view = { λ n. n.program.now };
 
-    ghost invariant = { λ n. (name : List ℕ) → area_among n.areas.entries name ≡ area_of n.program.now.shared name };
+    ghost invariant = { λ n. (name : List ℕ) → area_among n.areas name ≡ area_of n.program.now.shared name };
 }
 
 impl<'a> Names<'a> {
@@ -122,7 +122,7 @@ impl<'a> Names<'a> {
         requires { FitsMemory program.now.shared }
         ensures { IfOk result (λ names. names ≡ program.now) }
     {
-        let mut areas: IndexMap<Vec<u8>, Area> = IndexMap::new(alloc);
+        let mut areas: BTreeMap<Vec<u8>, Area> = BTreeMap::new(alloc);
         let mut first = 0u32;
         for s in program.shared.as_slice() {
             let items = items_in(&s.size);
@@ -165,11 +165,13 @@ impl<'a> Names<'a> {
 /// One more shared name with its words. One that is here already keeps its own.
 fn add_area(
     alloc: Global,
-    areas: &mut IndexMap<Vec<u8>, Area>,
+    areas: &mut BTreeMap<Vec<u8>, Area>,
     name: &Text,
     area: Area,
 ) -> Result<(), NoMemory>
-    ensures { OnOk result ((other : List ℕ) → area_among areas.new.entries other ≡ option_or (area_among areas.old.entries other) (if bytes_eq name.now other then Some area else None)) }
+    ensures { OnOk result
+        ((other : List ℕ) → area_among areas.new other ≡ option_or (area_among areas.old other)
+        (if bytes_eq name.now other then Some area else None)) }
 {
     if areas.get(name.as_slice()).is_some() {
         return Ok(());

@@ -92,7 +92,9 @@ fn block_answers(
 ) -> Result<Items<Word>, NoMemory>
     requires { FitsMemory p.now.shared }
     ensures memory { IfOk result (λ memory. memory ≡ opening) }
-    ensures answers { OnOk result (answers.new ≡ answers.old ++ all_of (map (λ id. routines.answer p.now opening fuel block.now width id) (range_with_len 0 width))) }
+    ensures answers { OnOk result
+        (answers.new ≡ answers.old ++ all_of
+        (map (λ id. routines.answer p.now opening fuel block.now width id) (range_with_len 0 width))) }
 {
     let mut memory = opening;
     for id in 0..width {

@@ -51,7 +51,8 @@ pub(crate) fn eval_tree<S: Sink>(
     requires { FitsMemory p.now.shared }
     ensures end { IfOk result (λ end. end ≡ (meaning.meaning p.now fuel).ending) }
     ensures whole { IfOk result (λ _. Appends (S.written out.old) (S.written out.new) (text_of false (meaning.meaning p.now fuel).events)) }
-    ensures prefix { OnErr result (AppendsPrefix (S.written out.old) (S.written out.new) (text_of false (meaning.meaning p.now fuel).events)) }
+    ensures prefix { OnErr result
+        (AppendsPrefix (S.written out.old) (S.written out.new) (text_of false (meaning.meaning p.now fuel).events)) }
     ensures later { S.faults out.old ≤ S.faults out.new }
     ensures failed { IsErrOf result error.OutFailed → Rose (S.faults out.old) (S.faults out.new) }
 {
@@ -89,7 +90,8 @@ pub fn eval<S: Sink>(
 ) -> Result<RunEnd, EvalError>
     ensures end { IfOk result (λ end. end ≡ (meaning.meaning p.now fuel).ending) }
     ensures whole { IfOk result (λ _. Appends (S.written out.old) (S.written out.new) (text_of false (meaning.meaning p.now fuel).events)) }
-    ensures prefix { OnErr result (AppendsPrefix (S.written out.old) (S.written out.new) (text_of false (meaning.meaning p.now fuel).events)) }
+    ensures prefix { OnErr result
+        (AppendsPrefix (S.written out.old) (S.written out.new) (text_of false (meaning.meaning p.now fuel).events)) }
     ensures later { S.faults out.old ≤ S.faults out.new }
     ensures failed { IsErrOf result error.OutFailed → Rose (S.faults out.old) (S.faults out.new) }
 {

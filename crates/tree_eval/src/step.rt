@@ -76,7 +76,8 @@ fn step(
     requires few { sum widths.now ≤ MOST_ROUTINES }
     requires words { length (stores.memory_in world.old.store) ≤ MOST_WORDS }
     requires steps { world.old.steps + world.old.fuel + 1 < 2 ^ 32 }
-    ensures tells { (text : Option (List ℕ)) → TellsOf (meaning.open_step p.now fuel blocks.now widths.now world.old) result world.new text text }
+    ensures tells { (text : Option (List ℕ)) → TellsOf (meaning.open_step p.now fuel blocks.now widths.now world.old)
+        result world.new text text }
     ensures quiet { IsErrOf result out_failed → ⊥ }
     ensures goes_on { OnOk result (GoesOn world.old world.new) }
 {
@@ -106,7 +107,9 @@ pub fn parbegin(
 ) -> Result<Ending, MainHalt>
     requires fits { FitsMemory p.now.shared }
     requires main { IsMain world.old }
-    ensures tells { (text : Option (List ℕ)) → Tells (meaning.in_main p.now fuel (Stepping blocks.now) locals.now world.old) result locals.now world.new text text }
+    ensures tells { (text : Option (List ℕ)) → Tells
+        (meaning.in_main p.now fuel (Stepping blocks.now) locals.now world.old) result locals.now world.new text
+        text }
     ensures quiet { IsErrOf result out_failed → ⊥ }
     ensures goes_on { OnOk result (GoesOn world.old world.new) }
 {

@@ -255,7 +255,8 @@ fn values(
     world: &mut World,
 ) -> Result<(), Halt>
     requires { FitsMemory p.now.shared }
-    ensures follows { AppendsAll (values_of p.now (effects.calls_to p.now levels) locals.now all.now) given.old world.old result given.new world.new }
+    ensures follows { AppendsAll (values_of p.now (effects.calls_to p.now levels) locals.now all.now) given.old
+        world.old result given.new world.new }
     ensures fuel { world.new.fuel ≤ world.old.fuel }
     ensures stays { stays world.new ≡ stays world.old }
 {
@@ -305,7 +306,9 @@ pub fn statements(
     world: &mut World,
 ) -> Result<Ending, Halt>
     requires { FitsMemory p.now.shared }
-    ensures goes { Goes (effects.statements p.now (effects.calls_to p.now levels) effects.nowhere all.now locals.old world.old) result locals.new world.new }
+    ensures goes { Goes
+        (effects.statements p.now (effects.calls_to p.now levels) effects.nowhere all.now locals.old world.old) result
+        locals.new world.new }
     ensures fuel { world.new.fuel ≤ world.old.fuel }
     ensures stays { stays world.new ≡ stays world.old }
 {
@@ -329,7 +332,9 @@ pub fn statement(
     world: &mut World,
 ) -> Result<Ending, Halt>
     requires { FitsMemory p.now.shared }
-    ensures goes { Goes (effects.effect p.now (effects.calls_to p.now levels) effects.nowhere s.now.form locals.old world.old) result locals.new world.new }
+    ensures goes { Goes
+        (effects.effect p.now (effects.calls_to p.now levels) effects.nowhere s.now.form locals.old world.old) result
+        locals.new world.new }
     ensures fuel { world.new.fuel ≤ world.old.fuel }
     ensures stays { stays world.new ≡ stays world.old }
 {
@@ -406,7 +411,8 @@ fn change(
     world: &mut World,
 ) -> Result<(), Halt>
     requires { FitsMemory p.now.shared }
-    ensures follows { Sets (changed adds p.now (effects.calls_to p.now levels) locals.old place.now e.now world.old) result locals.new world.new }
+    ensures follows { Sets (changed adds p.now (effects.calls_to p.now levels) locals.old place.now e.now world.old)
+        result locals.new world.new }
     ensures fuel { world.new.fuel ≤ world.old.fuel }
     ensures stays { stays world.new ≡ stays world.old }
 {
@@ -435,7 +441,10 @@ fn choose(
     world: &mut World,
 ) -> Result<Ending, Halt>
     requires { FitsMemory p.now.shared }
-    ensures goes { Goes (chosen p.now (effects.calls_to p.now levels) effects.nowhere arms.now (last_block p.now (effects.calls_to p.now levels) effects.nowhere last.now) locals.old world.old) result locals.new world.new }
+    ensures goes { Goes
+        (chosen p.now (effects.calls_to p.now levels) effects.nowhere arms.now
+        (last_block p.now (effects.calls_to p.now levels) effects.nowhere last.now) locals.old world.old) result
+        locals.new world.new }
     ensures fuel { world.new.fuel ≤ world.old.fuel }
     ensures stays { stays world.new ≡ stays world.old }
 {
@@ -462,7 +471,9 @@ fn block(
     world: &mut World,
 ) -> Result<Ending, Halt>
     requires { FitsMemory p.now.shared }
-    ensures goes { Goes (effects.scoped (effects.statements p.now (effects.calls_to p.now levels) effects.nowhere body.now) locals.old world.old) result locals.new world.new }
+    ensures goes { Goes
+        (effects.scoped (effects.statements p.now (effects.calls_to p.now levels) effects.nowhere body.now) locals.old
+        world.old) result locals.new world.new }
     ensures fuel { world.new.fuel ≤ world.old.fuel }
     ensures stays { stays world.new ≡ stays world.old }
 {
@@ -485,7 +496,11 @@ fn turns(
     world: &mut World,
 ) -> Result<Ending, Halt>
     requires { FitsMemory p.now.shared }
-    ensures goes { Goes (effects.loop (λ inner. spec.value_of p.now (effects.calls_to p.now levels) inner test.now) (effects.scoped (effects.statements p.now (effects.calls_to p.now levels) effects.nowhere body.now)) (effects.step_of p.now (effects.calls_to p.now levels) effects.nowhere (option_copied next.entry)) locals.old world.old) result locals.new world.new }
+    ensures goes { Goes
+        (effects.loop (λ inner. spec.value_of p.now (effects.calls_to p.now levels) inner test.now)
+        (effects.scoped (effects.statements p.now (effects.calls_to p.now levels) effects.nowhere body.now))
+        (effects.step_of p.now (effects.calls_to p.now levels) effects.nowhere (option_copied next.entry))
+        locals.old world.old) result locals.new world.new }
     ensures fuel { world.new.fuel ≤ world.old.fuel }
     ensures stays { stays world.new ≡ stays world.old }
 {
@@ -515,7 +530,9 @@ fn step(
     world: &mut World,
 ) -> Result<(), Halt>
     requires { FitsMemory p.now.shared }
-    ensures follows { Sets (effects.step_of p.now (effects.calls_to p.now levels) effects.nowhere (option_copied next.entry) locals.old world.old) result locals.new world.new }
+    ensures follows { Sets
+        (effects.step_of p.now (effects.calls_to p.now levels) effects.nowhere (option_copied next.entry) locals.old
+        world.old) result locals.new world.new }
     ensures fuel { world.new.fuel ≤ world.old.fuel }
     ensures stays { stays world.new ≡ stays world.old }
 {

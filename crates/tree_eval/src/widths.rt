@@ -29,7 +29,8 @@ pub fn widths_of(
     world: &mut World,
 ) -> Result<(), Halt>
     requires { FitsMemory p.now.shared }
-    ensures follows { AppendsAll (meaning.widths_of p.now (calls_to p.now most_levels) locals.now blocks.now) numbers.old world.old result numbers.new world.new }
+    ensures follows { AppendsAll (meaning.widths_of p.now (calls_to p.now most_levels) locals.now blocks.now)
+        numbers.old world.old result numbers.new world.new }
     ensures fuel { world.new.fuel ≤ world.old.fuel }
     ensures stays { stays world.new ≡ stays world.old }
 {

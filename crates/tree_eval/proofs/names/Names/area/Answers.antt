@@ -1,10 +1,8 @@
 use Rattle.std.proofs.Common.{sym, ap, ◌∙◌}
-use Rattle.std.specs.Map.{lookup}
 use Rattle.std.specs.Option.{option_copied}
-use Rattle.std.specs.Str.{bytes_eq}
 use Rattle.csl_meaning.specs.Layout.{area_of}
 use Rattle.csl_meaning.specs.Value.{declared}
-use Rattle.type_check.proofs.TableLemmas.{lookup-seen}
+use Rattle.tree_eval.specs.Areas.{area_among}
 use Rattle.tree_eval.proofs.AreaLemmas.{within}
 use Rattle.tree_eval.proofs.names.Names.area.Goals as goal
 
@@ -13,8 +11,7 @@ returns-in-Some c =
     let area_is =
     ap (λ r. declared (option_copied r)) (sym c.in-Some.is)
     ∙ ap declared (c.get.ensures.value
-    ∙ ap (λ t. lookup (λ k. bytes_eq t k.items) c.self.inside.areas.entries) c.as_slice.ensures
-    ∙ sym (lookup-seen (λ v. v.items) (bytes_eq c.args.name.now) c.self.inside.areas.entries)
+    ∙ ap (area_among c.self.inside.areas) c.as_slice.ensures
     ∙ c.self.invariant c.args.name.now
     ∙ ap (λ p. area_of p.shared c.args.name.now) c.self.view_is) in
     record { area = area_is; within = within c.args.self.now.shared c.args.name.now _ c.requires area_is }
@@ -24,8 +21,7 @@ returns-in-None c =
     let area_is =
     ap (λ r. declared (option_copied r)) (sym c.in-None.is)
     ∙ ap declared (c.get.ensures.value
-    ∙ ap (λ t. lookup (λ k. bytes_eq t k.items) c.self.inside.areas.entries) c.as_slice.ensures
-    ∙ sym (lookup-seen (λ v. v.items) (bytes_eq c.args.name.now) c.self.inside.areas.entries)
+    ∙ ap (area_among c.self.inside.areas) c.as_slice.ensures
     ∙ c.self.invariant c.args.name.now
     ∙ ap (λ p. area_of p.shared c.args.name.now) c.self.view_is) in
     record { area = area_is; within = within c.args.self.now.shared c.args.name.now _ c.requires area_is }
