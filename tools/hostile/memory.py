@@ -74,8 +74,8 @@ def is_well(got, usual, same_log):
 def tried(program, folder, words, written, same_log, most):
     """Prints a row of one command; returns how many runs ended otherwise than they may."""
     usual = run(program, folder, words, written, {"COUNT": os.path.join(folder, "count")})
-    with open(os.path.join(folder, "count")) as file:
-        wants = int(file.read())
+    with open(os.path.join(folder, "count"), "rb") as file:
+        wants = int.from_bytes(file.read(), sys.byteorder)
     wrong, refused, done = 0, 0, 0
     for number in chosen(wants, most):
         for more in ({}, {"REFUSE_REST": "1"}):
