@@ -12,4 +12,3 @@ pub mod Telling
 pub mod Mains
 pub mod Starting
 pub mod Accepted
-pub mod AreaLemmas

@@ -13,4 +13,3 @@ pub mod Ready
 pub mod Printed
 pub mod Initial
 pub mod Ends
-pub mod Areas
