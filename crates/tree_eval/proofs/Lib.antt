@@ -12,3 +12,4 @@ pub mod Telling
 pub mod Mains
 pub mod Starting
 pub mod Accepted
+pub mod AreaLemmas

@@ -13,3 +13,4 @@ pub mod Ready
 pub mod Printed
 pub mod Initial
 pub mod Ends
+pub mod Areas

@@ -9,11 +9,12 @@ ghost use Rattle.tree_eval.specs.Follows.{Follows, AppendsAll, stays};
 ghost use Rattle.tree_eval.specs.Pieces.{piece_of, spaced};
 
 use crate::halt::Halt;
+use crate::names::Names;
 use crate::stmt::{MOST_LEVELS, value};
 use cal_base::{NoMemory, Val};
 use csl_meaning::{Local, World};
 use csl_tree::name::Text;
-use csl_tree::program::{Item, Program};
+use csl_tree::program::Item;
 use itoa::Buffer;
 use sqlite_items::Items;
 use std::alloc::Global;
@@ -35,7 +36,7 @@ fn shown(alloc: Global, value: Val) -> Result<Text, NoMemory>
 /// The text of a printed item.
 fn piece(
     alloc: Global,
-    p: &Program,
+    p: &Names<'_>,
     item: &Item,
     locals: &Items<Local>,
     world: &mut World,
@@ -57,14 +58,15 @@ fn piece(
 /// Appends the text of each printed item. The values are evaluated from left to right.
 pub fn pieces(
     alloc: Global,
-    p: &Program,
+    p: &Names<'_>,
     items: &[Item],
     locals: &Items<Local>,
     texts: &mut Items<Text>,
     world: &mut World,
 ) -> Result<(), Halt>
     requires { FitsMemory p.now.shared }
-    ensures follows { AppendsAll (meaning.pieces p.now (calls_to p.now most_levels) locals.now items.now) texts.old world.old result texts.new world.new }
+    ensures follows { AppendsAll (meaning.pieces p.now (calls_to p.now most_levels) locals.now items.now) texts.old
+        world.old result texts.new world.new }
     ensures fuel { world.new.fuel ≤ world.old.fuel }
     ensures stays { stays world.new ≡ stays world.old }
 {

@@ -17,27 +17,29 @@ ghost use Rattle.tree_eval.specs.declared.main_halt.MainHalt.TheVariants.{OutFai
 
 use crate::line::{line_of, pieces};
 use crate::main_halt::{MainHalt, main_halt};
+use crate::names::Names;
 use crate::operators::truth_in;
 use crate::step::parbegin;
 use crate::stmt::{MOST_LEVELS, keep, statement, value};
 use crate::store::take_unit;
 use cal_base::{Sink, Val, write_all};
 use csl_meaning::{Ending, Local, World};
-use csl_tree::program::{Arm, Expr, Form, Item, Program, Stmt};
+use csl_tree::program::{Arm, Expr, Form, Item, Stmt};
 use sqlite_items::Items;
 use std::alloc::Global;
 
 /// The value of an expression of main.
 fn main_value(
     alloc: Global,
-    p: &Program,
+    p: &Names<'_>,
     e: &Expr,
     locals: &Items<Local>,
     world: &mut World,
 ) -> Result<Val, MainHalt>
     requires fits { FitsMemory p.now.shared }
     requires main { IsMain world.old }
-    ensures tells { (text : Option (List ℕ)) → TellsOf (spec.value_of p.now (calls_to p.now most_levels) locals.now e.now world.old) result world.new text text }
+    ensures tells { (text : Option (List ℕ)) → TellsOf
+        (spec.value_of p.now (calls_to p.now most_levels) locals.now e.now world.old) result world.new text text }
     ensures quiet { IsErrOf result out_failed → ⊥ }
     ensures goes_on { OnOk result (GoesOn world.old world.new) }
 {
@@ -64,14 +66,16 @@ fn main_unit(world: &mut World) -> Result<(), MainHalt>
 /// A statement of main that is the same elsewhere.
 fn plain_statement(
     alloc: Global,
-    p: &Program,
+    p: &Names<'_>,
     s: &Stmt,
     locals: &mut Items<Local>,
     world: &mut World,
 ) -> Result<Ending, MainHalt>
     requires fits { FitsMemory p.now.shared }
     requires main { IsMain world.old }
-    ensures tells { (text : Option (List ℕ)) → Tells (effects.effect p.now (calls_to p.now most_levels) effects.nowhere s.now.form locals.old world.old) result locals.new world.new text text }
+    ensures tells { (text : Option (List ℕ)) → Tells
+        (effects.effect p.now (calls_to p.now most_levels) effects.nowhere s.now.form locals.old world.old) result
+        locals.new world.new text text }
     ensures quiet { IsErrOf result out_failed → ⊥ }
     ensures goes_on { OnOk result (GoesOn world.old world.new) }
 {
@@ -84,7 +88,7 @@ fn plain_statement(
 /// The text of a line that is printed.
 fn printed(
     alloc: Global,
-    p: &Program,
+    p: &Names<'_>,
     items: &[Item],
     locals: &Items<Local>,
     world: &mut World,
@@ -105,7 +109,7 @@ fn printed(
 /// Prints one line, after all its values are known.
 fn print<S: Sink>(
     alloc: Global,
-    p: &Program,
+    p: &Names<'_>,
     fuel: u64,
     items: &[Item],
     locals: &Items<Local>,
@@ -114,7 +118,8 @@ fn print<S: Sink>(
 ) -> Result<Ending, MainHalt>
     requires fits { FitsMemory p.now.shared }
     requires main { IsMain world.old }
-    ensures tells { Tells (in_main p.now fuel (Printing items.now) locals.now world.old) result locals.now world.new (S.written out.old) (S.written out.new) }
+    ensures tells { Tells (in_main p.now fuel (Printing items.now) locals.now world.old) result locals.now world.new
+        (S.written out.old) (S.written out.new) }
     ensures later { S.faults out.old ≤ S.faults out.new }
     ensures failed { OutRose result (S.faults out.old) (S.faults out.new) }
     ensures goes_on { OnOk result (GoesOn world.old world.new) }
@@ -128,7 +133,7 @@ fn print<S: Sink>(
 #[cycle(main)]
 fn main_statement<S: Sink>(
     alloc: Global,
-    p: &Program,
+    p: &Names<'_>,
     fuel: u64,
     s: &Stmt,
     locals: &mut Items<Local>,
@@ -137,7 +142,9 @@ fn main_statement<S: Sink>(
 ) -> Result<Ending, MainHalt>
     requires fits { FitsMemory p.now.shared }
     requires main { IsMain world.old }
-    ensures tells { Tells (effects.effect p.now (calls_to p.now most_levels) (in_main p.now fuel) s.now.form locals.old world.old) result locals.new world.new (S.written out.old) (S.written out.new) }
+    ensures tells { Tells
+        (effects.effect p.now (calls_to p.now most_levels) (in_main p.now fuel) s.now.form locals.old world.old)
+        result locals.new world.new (S.written out.old) (S.written out.new) }
     ensures later { S.faults out.old ≤ S.faults out.new }
     ensures failed { OutRose result (S.faults out.old) (S.faults out.new) }
     ensures goes_on { OnOk result (GoesOn world.old world.new) }
@@ -187,7 +194,7 @@ fn main_statement<S: Sink>(
 #[cycle(main)]
 pub fn main_statements<S: Sink>(
     alloc: Global,
-    p: &Program,
+    p: &Names<'_>,
     fuel: u64,
     all: &[Stmt],
     locals: &mut Items<Local>,
@@ -196,7 +203,9 @@ pub fn main_statements<S: Sink>(
 ) -> Result<Ending, MainHalt>
     requires fits { FitsMemory p.now.shared }
     requires main { IsMain world.old }
-    ensures tells { Tells (effects.statements p.now (calls_to p.now most_levels) (in_main p.now fuel) all.now locals.old world.old) result locals.new world.new (S.written out.old) (S.written out.new) }
+    ensures tells { Tells
+        (effects.statements p.now (calls_to p.now most_levels) (in_main p.now fuel) all.now locals.old world.old)
+        result locals.new world.new (S.written out.old) (S.written out.new) }
     ensures later { S.faults out.old ≤ S.faults out.new }
     ensures failed { OutRose result (S.faults out.old) (S.faults out.new) }
     ensures goes_on { OnOk result (GoesOn world.old world.new) }
@@ -214,7 +223,7 @@ pub fn main_statements<S: Sink>(
 #[cycle(main)]
 fn main_choose<S: Sink>(
     alloc: Global,
-    p: &Program,
+    p: &Names<'_>,
     fuel: u64,
     arms: &[Arm],
     last: &Option<Items<Stmt>>,
@@ -224,7 +233,10 @@ fn main_choose<S: Sink>(
 ) -> Result<Ending, MainHalt>
     requires fits { FitsMemory p.now.shared }
     requires main { IsMain world.old }
-    ensures tells { Tells (chosen p.now (calls_to p.now most_levels) (in_main p.now fuel) arms.now (last_block p.now (calls_to p.now most_levels) (in_main p.now fuel) last.now) locals.old world.old) result locals.new world.new (S.written out.old) (S.written out.new) }
+    ensures tells { Tells
+        (chosen p.now (calls_to p.now most_levels) (in_main p.now fuel) arms.now
+        (last_block p.now (calls_to p.now most_levels) (in_main p.now fuel) last.now) locals.old world.old) result
+        locals.new world.new (S.written out.old) (S.written out.new) }
     ensures later { S.faults out.old ≤ S.faults out.new }
     ensures failed { OutRose result (S.faults out.old) (S.faults out.new) }
     ensures goes_on { OnOk result (GoesOn world.old world.new) }
@@ -245,7 +257,7 @@ fn main_choose<S: Sink>(
 #[cycle(main)]
 fn main_block<S: Sink>(
     alloc: Global,
-    p: &Program,
+    p: &Names<'_>,
     fuel: u64,
     body: &Items<Stmt>,
     locals: &mut Items<Local>,
@@ -254,7 +266,9 @@ fn main_block<S: Sink>(
 ) -> Result<Ending, MainHalt>
     requires fits { FitsMemory p.now.shared }
     requires main { IsMain world.old }
-    ensures tells { Tells (effects.scoped (effects.statements p.now (calls_to p.now most_levels) (in_main p.now fuel) body.now) locals.old world.old) result locals.new world.new (S.written out.old) (S.written out.new) }
+    ensures tells { Tells
+        (effects.scoped (effects.statements p.now (calls_to p.now most_levels) (in_main p.now fuel) body.now)
+        locals.old world.old) result locals.new world.new (S.written out.old) (S.written out.new) }
     ensures later { S.faults out.old ≤ S.faults out.new }
     ensures failed { OutRose result (S.faults out.old) (S.faults out.new) }
     ensures goes_on { OnOk result (GoesOn world.old world.new) }
@@ -269,7 +283,7 @@ fn main_block<S: Sink>(
 #[cycle(main)]
 fn main_turns<S: Sink>(
     alloc: Global,
-    p: &Program,
+    p: &Names<'_>,
     fuel: u64,
     test: &Expr,
     body: &Items<Stmt>,
@@ -280,7 +294,11 @@ fn main_turns<S: Sink>(
 ) -> Result<Ending, MainHalt>
     requires fits { FitsMemory p.now.shared }
     requires main { IsMain world.old }
-    ensures tells { Tells (effects.loop (λ inner. spec.value_of p.now (calls_to p.now most_levels) inner test.now) (effects.scoped (effects.statements p.now (calls_to p.now most_levels) (in_main p.now fuel) body.now)) (effects.step_of p.now (calls_to p.now most_levels) (in_main p.now fuel) (option_copied next.entry)) locals.old world.old) result locals.new world.new (S.written out.old) (S.written out.new) }
+    ensures tells { Tells
+        (effects.loop (λ inner. spec.value_of p.now (calls_to p.now most_levels) inner test.now)
+        (effects.scoped (effects.statements p.now (calls_to p.now most_levels) (in_main p.now fuel) body.now))
+        (effects.step_of p.now (calls_to p.now most_levels) (in_main p.now fuel) (option_copied next.entry))
+        locals.old world.old) result locals.new world.new (S.written out.old) (S.written out.new) }
     ensures later { S.faults out.old ≤ S.faults out.new }
     ensures failed { OutRose result (S.faults out.old) (S.faults out.new) }
     ensures goes_on { OnOk result (GoesOn world.old world.new) }
@@ -304,7 +322,7 @@ fn main_turns<S: Sink>(
 #[cycle(main)]
 fn main_step<S: Sink>(
     alloc: Global,
-    p: &Program,
+    p: &Names<'_>,
     fuel: u64,
     next: Option<&Stmt>,
     locals: &mut Items<Local>,
@@ -313,7 +331,9 @@ fn main_step<S: Sink>(
 ) -> Result<(), MainHalt>
     requires fits { FitsMemory p.now.shared }
     requires main { IsMain world.old }
-    ensures tells { TellsLocals (effects.step_of p.now (calls_to p.now most_levels) (in_main p.now fuel) (option_copied next.entry) locals.old world.old) result locals.new world.new (S.written out.old) (S.written out.new) }
+    ensures tells { TellsLocals
+        (effects.step_of p.now (calls_to p.now most_levels) (in_main p.now fuel) (option_copied next.entry) locals.old
+        world.old) result locals.new world.new (S.written out.old) (S.written out.new) }
     ensures later { S.faults out.old ≤ S.faults out.new }
     ensures failed { OutRose result (S.faults out.old) (S.faults out.new) }
     ensures goes_on { OnOk result (GoesOn world.old world.new) }

@@ -8,11 +8,12 @@ ghost use Rattle.tree_eval.specs.Finished.{finished};
 ghost use Rattle.tree_eval.specs.Fits.{FitsMemory};
 
 use crate::halt::Halt;
+use crate::names::Names;
 use crate::stmt::{MOST_LEVELS, statements};
 use cal_base::{Answer, KeptUpdate, NoMemory, Store, Val, Word};
 use csl_meaning::{Ending, Local, World};
 use csl_tree::name::Text;
-use csl_tree::program::{Program, RoutineBlock};
+use csl_tree::program::RoutineBlock;
 use sqlite_items::Items;
 use std::alloc::Global;
 
@@ -45,7 +46,7 @@ fn int(n: u32) -> Val
 /// One routine's answer, and the opening memory that it was lent.
 fn answer(
     alloc: Global,
-    p: &Program,
+    p: &Names<'_>,
     opening: Items<Word>,
     fuel: u64,
     block: &RoutineBlock,
@@ -82,7 +83,7 @@ fn answer(
 /// Appends the answers of a block's routines.
 fn block_answers(
     alloc: Global,
-    p: &Program,
+    p: &Names<'_>,
     opening: Items<Word>,
     fuel: u64,
     block: &RoutineBlock,
@@ -91,7 +92,9 @@ fn block_answers(
 ) -> Result<Items<Word>, NoMemory>
     requires { FitsMemory p.now.shared }
     ensures memory { IfOk result (λ memory. memory ≡ opening) }
-    ensures answers { OnOk result (answers.new ≡ answers.old ++ all_of (map (λ id. routines.answer p.now opening fuel block.now width id) (range_with_len 0 width))) }
+    ensures answers { OnOk result
+        (answers.new ≡ answers.old ++ all_of
+        (map (λ id. routines.answer p.now opening fuel block.now width id) (range_with_len 0 width))) }
 {
     let mut memory = opening;
     for id in 0..width {
@@ -105,7 +108,7 @@ fn block_answers(
 /// The answers of all routines of a step, in the order of their numbers, and the opening memory that they were lent.
 pub fn step_answers(
     alloc: Global,
-    p: &Program,
+    p: &Names<'_>,
     opening: Items<Word>,
     fuel: u64,
     blocks: &[RoutineBlock],

@@ -13,9 +13,9 @@ ghost use Rattle.tree_eval.specs.declared.run.EvalError.TheVariants as error;
 use crate::first_memory::first_memory;
 use crate::main_halt::MainHalt;
 use crate::main_stmt::main_statements;
+use crate::names::Names;
 use cal_base::{RunEnd, Sink, Store};
 use csl_meaning::{Ending, Local, World};
-use csl_tree::program::Program;
 use sqlite_items::Items;
 use std::alloc::Global;
 use type_check::checked::Checked;
@@ -44,18 +44,20 @@ fn run_end(went: Result<Ending, MainHalt>, steps: u64) -> Result<RunEnd, EvalErr
 /// Runs a program whose words fit the memory.
 pub(crate) fn eval_tree<S: Sink>(
     alloc: Global,
-    p: &Program,
+    p: &Names<'_>,
     fuel: u32,
     out: &mut S,
 ) -> Result<RunEnd, EvalError>
     requires { FitsMemory p.now.shared }
     ensures end { IfOk result (λ end. end ≡ (meaning.meaning p.now fuel).ending) }
     ensures whole { IfOk result (λ _. Appends (S.written out.old) (S.written out.new) (text_of false (meaning.meaning p.now fuel).events)) }
-    ensures prefix { OnErr result (AppendsPrefix (S.written out.old) (S.written out.new) (text_of false (meaning.meaning p.now fuel).events)) }
+    ensures prefix { OnErr result
+        (AppendsPrefix (S.written out.old) (S.written out.new) (text_of false (meaning.meaning p.now fuel).events)) }
     ensures later { S.faults out.old ≤ S.faults out.new }
     ensures failed { IsErrOf result error.OutFailed → Rose (S.faults out.old) (S.faults out.new) }
 {
-    let memory = match first_memory(alloc, p.shared.as_slice()) {
+    let tree = p.program();
+    let memory = match first_memory(alloc, tree.shared.as_slice()) {
         Ok(memory) => memory,
         Err(_) => return Err(EvalError::NoMemory),
     };
@@ -69,7 +71,7 @@ pub(crate) fn eval_tree<S: Sink>(
         alloc,
         p,
         fuel as u64,
-        p.main.as_slice(),
+        tree.main.as_slice(),
         &mut locals,
         &mut world,
         out,
@@ -88,9 +90,13 @@ pub fn eval<S: Sink>(
 ) -> Result<RunEnd, EvalError>
     ensures end { IfOk result (λ end. end ≡ (meaning.meaning p.now fuel).ending) }
     ensures whole { IfOk result (λ _. Appends (S.written out.old) (S.written out.new) (text_of false (meaning.meaning p.now fuel).events)) }
-    ensures prefix { OnErr result (AppendsPrefix (S.written out.old) (S.written out.new) (text_of false (meaning.meaning p.now fuel).events)) }
+    ensures prefix { OnErr result
+        (AppendsPrefix (S.written out.old) (S.written out.new) (text_of false (meaning.meaning p.now fuel).events)) }
     ensures later { S.faults out.old ≤ S.faults out.new }
     ensures failed { IsErrOf result error.OutFailed → Rose (S.faults out.old) (S.faults out.new) }
 {
-    eval_tree(alloc, p.program(), fuel, out)
+    match Names::of(alloc, p.program()) {
+        Ok(names) => eval_tree(alloc, &names, fuel, out),
+        Err(_) => Err(EvalError::NoMemory),
+    }
 }

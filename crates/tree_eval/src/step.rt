@@ -15,13 +15,14 @@ ghost use Rattle.tree_eval.specs.declared.main_halt.MainHalt.TheVariants.{OutFai
 use crate::halt::Halt;
 use crate::main_halt::{MainHalt, main_halt};
 use crate::merge::merge;
+use crate::names::Names;
 use crate::routine::step_answers;
 use crate::store::take_unit;
 use crate::widths::{good_widths, widths_of};
 use cal_base::{Cause, RunEnd, Store, Word};
 use cal_terms::limits::{MOST_ROUTINES, MOST_WORDS};
 use csl_meaning::{Ending, Local, World};
-use csl_tree::program::{Program, RoutineBlock};
+use csl_tree::program::RoutineBlock;
 use sqlite_items::Items;
 use std::alloc::Global;
 use std::mem;
@@ -29,7 +30,7 @@ use std::mem;
 /// The widths of a step that may open, and its unit of fuel is taken.
 fn ready(
     alloc: Global,
-    p: &Program,
+    p: &Names<'_>,
     blocks: &[RoutineBlock],
     locals: &Items<Local>,
     world: &mut World,
@@ -65,7 +66,7 @@ fn memory_in(store: Store) -> Items<Word>
 /// Opens the next step, and goes on with the memory that it leaves.
 fn step(
     alloc: Global,
-    p: &Program,
+    p: &Names<'_>,
     fuel: u64,
     blocks: &[RoutineBlock],
     widths: &[u32],
@@ -75,7 +76,8 @@ fn step(
     requires few { sum widths.now ≤ MOST_ROUTINES }
     requires words { length (stores.memory_in world.old.store) ≤ MOST_WORDS }
     requires steps { world.old.steps + world.old.fuel + 1 < 2 ^ 32 }
-    ensures tells { (text : Option (List ℕ)) → TellsOf (meaning.open_step p.now fuel blocks.now widths.now world.old) result world.new text text }
+    ensures tells { (text : Option (List ℕ)) → TellsOf (meaning.open_step p.now fuel blocks.now widths.now world.old)
+        result world.new text text }
     ensures quiet { IsErrOf result out_failed → ⊥ }
     ensures goes_on { OnOk result (GoesOn world.old world.new) }
 {
@@ -97,7 +99,7 @@ fn step(
 /// A `parbegin`: its widths, one unit of fuel, and the step.
 pub fn parbegin(
     alloc: Global,
-    p: &Program,
+    p: &Names<'_>,
     fuel: u64,
     blocks: &[RoutineBlock],
     locals: &Items<Local>,
@@ -105,7 +107,9 @@ pub fn parbegin(
 ) -> Result<Ending, MainHalt>
     requires fits { FitsMemory p.now.shared }
     requires main { IsMain world.old }
-    ensures tells { (text : Option (List ℕ)) → Tells (meaning.in_main p.now fuel (Stepping blocks.now) locals.now world.old) result locals.now world.new text text }
+    ensures tells { (text : Option (List ℕ)) → Tells
+        (meaning.in_main p.now fuel (Stepping blocks.now) locals.now world.old) result locals.now world.new text
+        text }
     ensures quiet { IsErrOf result out_failed → ⊥ }
     ensures goes_on { OnOk result (GoesOn world.old world.new) }
 {

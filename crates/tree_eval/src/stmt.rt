@@ -11,13 +11,13 @@ ghost use Rattle.tree_eval.specs.Changes.{changed_word, changed_local, changed_n
 ghost use Rattle.std.specs.Option.{option_copied};
 
 use crate::halt::Halt;
-use crate::names::{area_of, function_named, item_at, local_value, set_local};
+use crate::names::{Names, item_at, local_value, set_local};
 use crate::operators::{binary, decided, number_in, truth_in, unary};
 use crate::store::{put_word, raise_word, read_word, take_unit};
 use cal_base::{Cause, NoMemory, Val};
 use csl_meaning::{Ending, Local, World};
 use csl_tree::name::Text;
-use csl_tree::program::{Arm, BinaryOp, Call, Expr, Form, Node, Param, Place, Program, Stmt};
+use csl_tree::program::{Arm, BinaryOp, Call, Expr, Form, Node, Param, Place, Stmt};
 use sqlite_items::Items;
 use std::alloc::Global;
 
@@ -99,7 +99,7 @@ fn change_local(
 /// Changes what a name means: a local, else a shared word.
 fn change_name(
     alloc: Global,
-    p: &Program,
+    p: &Names<'_>,
     adds: bool,
     name: &Text,
     value: Val,
@@ -114,7 +114,7 @@ fn change_name(
     match local_value(locals.as_slice(), name) {
         Some(old) => change_local(alloc, adds, old, name, value, locals, world),
         None => {
-            let area = area_of(p.shared.as_slice(), name);
+            let area = p.area(name);
             change_word(adds, area.first, value, world)
         }
     }
@@ -122,7 +122,7 @@ fn change_name(
 
 /// Changes an item of an array.
 fn change_item(
-    p: &Program,
+    p: &Names<'_>,
     adds: bool,
     name: &Text,
     index: Val,
@@ -134,7 +134,7 @@ fn change_item(
     ensures fuel { world.new.fuel ≤ world.old.fuel }
     ensures stays { stays world.new ≡ stays world.old }
 {
-    let area = area_of(p.shared.as_slice(), name);
+    let area = p.area(name);
     match item_at(area, number_in(index)) {
         None => Err(Halt::Cause(Cause::OutOfRange)),
         Some(address) => change_word(adds, address, value, world),
@@ -145,7 +145,7 @@ fn change_item(
 #[cycle(eval)]
 pub fn value(
     alloc: Global,
-    p: &Program,
+    p: &Names<'_>,
     levels: u64,
     locals: &Items<Local>,
     e: &Expr,
@@ -184,7 +184,7 @@ pub fn value(
 #[cycle(eval)]
 fn read(
     alloc: Global,
-    p: &Program,
+    p: &Names<'_>,
     levels: u64,
     locals: &Items<Local>,
     place: &Place,
@@ -200,12 +200,12 @@ fn read(
             if let Some(v) = local_value(locals.as_slice(), &place.name.text) {
                 return Ok(v);
             }
-            let area = area_of(p.shared.as_slice(), &place.name.text);
+            let area = p.area(&place.name.text);
             Ok(Val::Int(read_word(&world.store, area.first)))
         }
         Some(i) => {
             let x = value(alloc, p, levels, locals, i.get(), world)?;
-            let area = area_of(p.shared.as_slice(), &place.name.text);
+            let area = p.area(&place.name.text);
             match item_at(area, number_in(x)) {
                 None => Err(Halt::Cause(Cause::OutOfRange)),
                 Some(address) => Ok(Val::Int(read_word(&world.store, address))),
@@ -218,7 +218,7 @@ fn read(
 #[cycle(eval)]
 pub fn call_of(
     alloc: Global,
-    p: &Program,
+    p: &Names<'_>,
     levels: u64,
     locals: &Items<Local>,
     call: &Call,
@@ -247,7 +247,7 @@ pub fn call_of(
 #[cycle(eval)]
 fn values(
     alloc: Global,
-    p: &Program,
+    p: &Names<'_>,
     levels: u64,
     locals: &Items<Local>,
     all: &[Expr],
@@ -255,7 +255,8 @@ fn values(
     world: &mut World,
 ) -> Result<(), Halt>
     requires { FitsMemory p.now.shared }
-    ensures follows { AppendsAll (values_of p.now (effects.calls_to p.now levels) locals.now all.now) given.old world.old result given.new world.new }
+    ensures follows { AppendsAll (values_of p.now (effects.calls_to p.now levels) locals.now all.now) given.old
+        world.old result given.new world.new }
     ensures fuel { world.new.fuel ≤ world.old.fuel }
     ensures stays { stays world.new ≡ stays world.old }
 {
@@ -270,7 +271,7 @@ fn values(
 #[cycle(eval)]
 fn run_call(
     alloc: Global,
-    p: &Program,
+    p: &Names<'_>,
     levels: u64,
     name: &Text,
     given: &[Val],
@@ -284,7 +285,7 @@ fn run_call(
     if levels == 0 {
         return Err(Halt::Cause(Cause::TooDeep));
     }
-    match function_named(p.functions.as_slice(), name) {
+    match p.function(name) {
         None => Ok(None),
         Some(f) => {
             let mut locals = bound(alloc, f.params.as_slice(), given)?;
@@ -298,14 +299,16 @@ fn run_call(
 #[cycle(eval)]
 pub fn statements(
     alloc: Global,
-    p: &Program,
+    p: &Names<'_>,
     levels: u64,
     all: &[Stmt],
     locals: &mut Items<Local>,
     world: &mut World,
 ) -> Result<Ending, Halt>
     requires { FitsMemory p.now.shared }
-    ensures goes { Goes (effects.statements p.now (effects.calls_to p.now levels) effects.nowhere all.now locals.old world.old) result locals.new world.new }
+    ensures goes { Goes
+        (effects.statements p.now (effects.calls_to p.now levels) effects.nowhere all.now locals.old world.old) result
+        locals.new world.new }
     ensures fuel { world.new.fuel ≤ world.old.fuel }
     ensures stays { stays world.new ≡ stays world.old }
 {
@@ -322,14 +325,16 @@ pub fn statements(
 #[cycle(eval)]
 pub fn statement(
     alloc: Global,
-    p: &Program,
+    p: &Names<'_>,
     levels: u64,
     s: &Stmt,
     locals: &mut Items<Local>,
     world: &mut World,
 ) -> Result<Ending, Halt>
     requires { FitsMemory p.now.shared }
-    ensures goes { Goes (effects.effect p.now (effects.calls_to p.now levels) effects.nowhere s.now.form locals.old world.old) result locals.new world.new }
+    ensures goes { Goes
+        (effects.effect p.now (effects.calls_to p.now levels) effects.nowhere s.now.form locals.old world.old) result
+        locals.new world.new }
     ensures fuel { world.new.fuel ≤ world.old.fuel }
     ensures stays { stays world.new ≡ stays world.old }
 {
@@ -397,7 +402,7 @@ pub fn statement(
 #[cycle(eval)]
 fn change(
     alloc: Global,
-    p: &Program,
+    p: &Names<'_>,
     levels: u64,
     adds: bool,
     place: &Place,
@@ -406,7 +411,8 @@ fn change(
     world: &mut World,
 ) -> Result<(), Halt>
     requires { FitsMemory p.now.shared }
-    ensures follows { Sets (changed adds p.now (effects.calls_to p.now levels) locals.old place.now e.now world.old) result locals.new world.new }
+    ensures follows { Sets (changed adds p.now (effects.calls_to p.now levels) locals.old place.now e.now world.old)
+        result locals.new world.new }
     ensures fuel { world.new.fuel ≤ world.old.fuel }
     ensures stays { stays world.new ≡ stays world.old }
 {
@@ -427,7 +433,7 @@ fn change(
 #[cycle(eval)]
 fn choose(
     alloc: Global,
-    p: &Program,
+    p: &Names<'_>,
     levels: u64,
     arms: &[Arm],
     last: &Option<Items<Stmt>>,
@@ -435,7 +441,10 @@ fn choose(
     world: &mut World,
 ) -> Result<Ending, Halt>
     requires { FitsMemory p.now.shared }
-    ensures goes { Goes (chosen p.now (effects.calls_to p.now levels) effects.nowhere arms.now (last_block p.now (effects.calls_to p.now levels) effects.nowhere last.now) locals.old world.old) result locals.new world.new }
+    ensures goes { Goes
+        (chosen p.now (effects.calls_to p.now levels) effects.nowhere arms.now
+        (last_block p.now (effects.calls_to p.now levels) effects.nowhere last.now) locals.old world.old) result
+        locals.new world.new }
     ensures fuel { world.new.fuel ≤ world.old.fuel }
     ensures stays { stays world.new ≡ stays world.old }
 {
@@ -455,14 +464,16 @@ fn choose(
 #[cycle(eval)]
 fn block(
     alloc: Global,
-    p: &Program,
+    p: &Names<'_>,
     levels: u64,
     body: &Items<Stmt>,
     locals: &mut Items<Local>,
     world: &mut World,
 ) -> Result<Ending, Halt>
     requires { FitsMemory p.now.shared }
-    ensures goes { Goes (effects.scoped (effects.statements p.now (effects.calls_to p.now levels) effects.nowhere body.now) locals.old world.old) result locals.new world.new }
+    ensures goes { Goes
+        (effects.scoped (effects.statements p.now (effects.calls_to p.now levels) effects.nowhere body.now) locals.old
+        world.old) result locals.new world.new }
     ensures fuel { world.new.fuel ≤ world.old.fuel }
     ensures stays { stays world.new ≡ stays world.old }
 {
@@ -476,7 +487,7 @@ fn block(
 #[cycle(eval)]
 fn turns(
     alloc: Global,
-    p: &Program,
+    p: &Names<'_>,
     levels: u64,
     test: &Expr,
     body: &Items<Stmt>,
@@ -485,7 +496,11 @@ fn turns(
     world: &mut World,
 ) -> Result<Ending, Halt>
     requires { FitsMemory p.now.shared }
-    ensures goes { Goes (effects.loop (λ inner. spec.value_of p.now (effects.calls_to p.now levels) inner test.now) (effects.scoped (effects.statements p.now (effects.calls_to p.now levels) effects.nowhere body.now)) (effects.step_of p.now (effects.calls_to p.now levels) effects.nowhere (option_copied next.entry)) locals.old world.old) result locals.new world.new }
+    ensures goes { Goes
+        (effects.loop (λ inner. spec.value_of p.now (effects.calls_to p.now levels) inner test.now)
+        (effects.scoped (effects.statements p.now (effects.calls_to p.now levels) effects.nowhere body.now))
+        (effects.step_of p.now (effects.calls_to p.now levels) effects.nowhere (option_copied next.entry))
+        locals.old world.old) result locals.new world.new }
     ensures fuel { world.new.fuel ≤ world.old.fuel }
     ensures stays { stays world.new ≡ stays world.old }
 {
@@ -508,14 +523,16 @@ fn turns(
 #[cycle(eval)]
 fn step(
     alloc: Global,
-    p: &Program,
+    p: &Names<'_>,
     levels: u64,
     next: Option<&Stmt>,
     locals: &mut Items<Local>,
     world: &mut World,
 ) -> Result<(), Halt>
     requires { FitsMemory p.now.shared }
-    ensures follows { Sets (effects.step_of p.now (effects.calls_to p.now levels) effects.nowhere (option_copied next.entry) locals.old world.old) result locals.new world.new }
+    ensures follows { Sets
+        (effects.step_of p.now (effects.calls_to p.now levels) effects.nowhere (option_copied next.entry) locals.old
+        world.old) result locals.new world.new }
     ensures fuel { world.new.fuel ≤ world.old.fuel }
     ensures stays { stays world.new ≡ stays world.old }
 {

@@ -9,26 +9,28 @@ ghost use Rattle.tree_eval.specs.Follows.{AppendsAll, stays};
 ghost use Rattle.tree_eval.specs.Widths.{small_number};
 
 use crate::halt::Halt;
+use crate::names::Names;
 use crate::operators::number_in;
 use crate::stmt::{MOST_LEVELS, value};
 use cal_base::NoMemory;
 use cal_terms::limits::MOST_ROUTINES;
 use csl_meaning::{Local, World};
-use csl_tree::program::{Program, RoutineBlock};
+use csl_tree::program::RoutineBlock;
 use sqlite_items::Items;
 use std::alloc::Global;
 
 /// Appends the widths of the blocks, evaluated from left to right.
 pub fn widths_of(
     alloc: Global,
-    p: &Program,
+    p: &Names<'_>,
     blocks: &[RoutineBlock],
     locals: &Items<Local>,
     numbers: &mut Items<i64>,
     world: &mut World,
 ) -> Result<(), Halt>
     requires { FitsMemory p.now.shared }
-    ensures follows { AppendsAll (meaning.widths_of p.now (calls_to p.now most_levels) locals.now blocks.now) numbers.old world.old result numbers.new world.new }
+    ensures follows { AppendsAll (meaning.widths_of p.now (calls_to p.now most_levels) locals.now blocks.now)
+        numbers.old world.old result numbers.new world.new }
     ensures fuel { world.new.fuel ≤ world.old.fuel }
     ensures stays { stays world.new ≡ stays world.old }
 {

@@ -1,4 +1,4 @@
-use Rattle.std.proofs.Common.{rules, arith, ◌∙◌, ◌-◌, Ok, Err}
+use Rattle.std.proofs.Common.{rules, arith, refl, ◌∙◌, ◌-◌, Ok, Err}
 use Rattle.tree_eval.proofs.Equations.{stops_first, gives_first, value_unary, value_binary, value_paren, read_item, result_is, appends_first, changed_item_of, sets_stop, sets_next, sets_alone, value_appended, value_stops, next_item}
 use Rattle.std.proofs.lemmas.Result.{err_from_is_err_and, IfOk-at_ok}
 use Rattle.tree_eval.specs.Lists.{values_of}
@@ -100,7 +100,7 @@ statement-call_of-requires t c = (omega (arith, c.decreases, in_call_statement _
 
 pub run_call-statements-requires : goal.run_call-statements-requires
 run_call-statements-requires t c =
-    (rw c.as_slice-in-Some-2.ensures (omega (arith, c.decreases, in_function c.args.p.now c.args.levels c.args.name.now c.in-Some.f.now (omega arith) (found c.as_slice.result.now c.args.p.now.functions c.args.name.now c.in-Some.f.now c.as_slice.ensures c.in-Some.ensures))), c.requires)
+    (rw c.as_slice-in-Some.ensures (omega (arith, c.decreases, in_function c.args.p.now c.args.levels c.args.name.now c.in-Some.f.now (omega arith) (found c.args.p.now.functions c.args.p.now.functions c.args.name.now c.in-Some.f.now refl c.in-Some.ensures))), c.requires)
 
 -- ---- a call
 
@@ -108,16 +108,16 @@ pub run_call-returns-in_err-e-in-Some-clause-follows : goal.run_call-returns-in_
 run_call-returns-in_err-e-in-Some-clause-follows t c =
     let p = err_from_is_err_and c.from_residual-in_err-e-in-Some.result c.from_residual-in_err-e-in-Some.ensures.1 in
     rw (p.1, p.2) (body_stops c.args.p.now c.args.name.now c.args.given.now c.args.world.now c.args.levels c.in-Some.f.now c.in_ok-locals-in-Some.locals c.statements.new.locals c.in_err-e-in-Some.field-0.0 c.statements.new.world
-    (omega arith) (found c.as_slice.result.now c.args.p.now.functions c.args.name.now c.in-Some.f.now c.as_slice.ensures c.in-Some.ensures) (begun c.as_slice-in-Some.result.now c.in-Some.f.now.params c.in_ok-locals-in-Some.locals c.args.given.now c.as_slice-in-Some.ensures c.in_ok-locals-in-Some.ensures) (run_on c.args.p.now (calls_to c.args.p.now (c.args.levels - 1)) c.as_slice-in-Some-2.result.now c.in-Some.f.now.body c.in_ok-locals-in-Some.locals c.statements.new.locals c.args.world.now c.statements.new.world (Err c.in_err-e-in-Some.field-0.0) c.as_slice-in-Some-2.ensures c.in_err-e-in-Some.ensures.goes))
+    (omega arith) (found c.args.p.now.functions c.args.p.now.functions c.args.name.now c.in-Some.f.now refl c.in-Some.ensures) (begun c.as_slice.result.now c.in-Some.f.now.params c.in_ok-locals-in-Some.locals c.args.given.now c.as_slice.ensures c.in_ok-locals-in-Some.ensures) (run_on c.args.p.now (calls_to c.args.p.now (c.args.levels - 1)) c.as_slice-in-Some.result.now c.in-Some.f.now.body c.in_ok-locals-in-Some.locals c.statements.new.locals c.args.world.now c.statements.new.world (Err c.in_err-e-in-Some.field-0.0) c.as_slice-in-Some.ensures c.in_err-e-in-Some.ensures.goes))
 
 pub run_call-returns-in-None-clause-follows : goal.run_call-returns-in-None-clause-follows
 run_call-returns-in-None-clause-follows t c =
-    no_function c.args.p.now c.args.name.now c.args.given.now c.args.world.now c.args.levels (omega arith) (found_none c.as_slice.result.now c.args.p.now.functions c.args.name.now c.as_slice.ensures c.in-None.ensures)
+    no_function c.args.p.now c.args.name.now c.args.given.now c.args.world.now c.args.levels (omega arith) (found_none c.args.p.now.functions c.args.p.now.functions c.args.name.now refl c.in-None.ensures)
 
 pub run_call-returns-in_ok-e-in-Some-clause-follows : goal.run_call-returns-in_ok-e-in-Some-clause-follows
 run_call-returns-in_ok-e-in-Some-clause-follows t c =
     rw c.given_back.ensures (body_gives c.args.p.now c.args.name.now c.args.given.now c.args.world.now c.args.levels c.in-Some.f.now c.in_ok-locals-in-Some.locals c.statements.new.locals c.in_ok-e-in-Some.e c.statements.new.world
-    (omega arith) (found c.as_slice.result.now c.args.p.now.functions c.args.name.now c.in-Some.f.now c.as_slice.ensures c.in-Some.ensures) (begun c.as_slice-in-Some.result.now c.in-Some.f.now.params c.in_ok-locals-in-Some.locals c.args.given.now c.as_slice-in-Some.ensures c.in_ok-locals-in-Some.ensures) (run_on c.args.p.now (calls_to c.args.p.now (c.args.levels - 1)) c.as_slice-in-Some-2.result.now c.in-Some.f.now.body c.in_ok-locals-in-Some.locals c.statements.new.locals c.args.world.now c.statements.new.world (Ok c.in_ok-e-in-Some.e) c.as_slice-in-Some-2.ensures c.in_ok-e-in-Some.ensures.goes))
+    (omega arith) (found c.args.p.now.functions c.args.p.now.functions c.args.name.now c.in-Some.f.now refl c.in-Some.ensures) (begun c.as_slice.result.now c.in-Some.f.now.params c.in_ok-locals-in-Some.locals c.args.given.now c.as_slice.ensures c.in_ok-locals-in-Some.ensures) (run_on c.args.p.now (calls_to c.args.p.now (c.args.levels - 1)) c.as_slice-in-Some.result.now c.in-Some.f.now.body c.in_ok-locals-in-Some.locals c.statements.new.locals c.args.world.now c.statements.new.world (Ok c.in_ok-e-in-Some.e) c.as_slice-in-Some.ensures c.in_ok-e-in-Some.ensures.goes))
 
 pub choose-value-requires : goal.choose-value-requires
 choose-value-requires t c = (omega (arith, c.decreases, one_arm c.args.arms.now c.loop-arm.arm-index c.arm-item.result (omega arith) c.arm-item.is), c.requires)
