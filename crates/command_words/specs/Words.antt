@@ -1,8 +1,8 @@
 -- What command the words of the command line give. They come without the program's own name.
 use Rattle.std.specs.Prelude.{ℕ, Bool, true, false, not, ◌&&◌, ◌==◌, nat_le, nat_lt, if◌then◌else◌, List, [], ◌∷◌, length, count_by, codes, Option, Some, None, option_map}
-use Rattle.std.specs.List.{list_all, flat_map, position_or_len, before_first, after_first}
+use Rattle.std.specs.List.{flat_map, position_or_len, before_first, after_first}
 use Rattle.std.specs.Str.{bytes_eq}
-use Rattle.std.specs.Str.Parse.{digits_value}
+use Rattle.decimal_number.specs.Decimal.{number_between}
 use Rattle.command_words.specs.declared.name.Verb.{Verb}
 use Rattle.command_words.specs.declared.name.Verb.TheVariants.{Check, Eval, Run, Sim, Build, Exec, Gen, Selfrun}
 use Rattle.command_words.specs.declared.name.Setting.{Setting}
@@ -183,20 +183,6 @@ value_in setting (part ∷ parts) = or_else (value_by setting part) (value_in se
 -- is the flag there?
 abbrev pub is_set : Setting → List Part → Bool
 is_set setting parts = nat_lt 0 (count_by (is_about setting) parts)
-
--- is this a decimal digit?
-abbrev pub is_digit : ℕ → Bool
-is_digit byte = nat_le 48 byte && nat_le byte 57
-
--- one or more decimal digits
-abbrev pub is_numeral : List ℕ → Bool
-is_numeral text = nat_lt 0 (length text) && list_all is_digit text
-
--- the number that the text is, if it is one and is in the range
-abbrev pub number_between : (least most : ℕ) → List ℕ → Option ℕ
-number_between least most text =
-    if is_numeral text && (nat_le least (digits_value 10 text) && nat_le (digits_value 10 text) most)
-    then Some (digits_value 10 text) else None
 
 -- the number that an option's value is, and this one where the option is not there
 abbrev pub number_or : (usual least most : ℕ) → Option (List ℕ) → Option ℕ

@@ -12,8 +12,9 @@ ghost use Rattle.command_words.specs.declared.command.WordsError.TheVariants.{No
 use crate::command::{Command, Flags, Generated, WordsError};
 use crate::found::find;
 use crate::name::Verb;
-use crate::number::{number_between, number_or};
+use crate::number::number_or;
 use clap::ArgMatches;
+use decimal_number::number_between;
 use std::alloc::{AllocError, Global};
 
 /// The one operand, or the first of two, as a text of its own.
@@ -41,8 +42,8 @@ fn numbers(matches: &ArgMatches<'_>) -> Option<Generated>
     ensures { option_map (λ program. (program.number, program.size)) result ≡ words.numbers_in (found.both_found (found_of matches.now)) }
 {
     let (number, size) = both(matches)?;
-    let number = number_between(number, 0, 4_294_967_295)?;
-    let size = number_between(size, 1, 4096)?;
+    let number = number_between(number.as_bytes(), 0, 4_294_967_295)?;
+    let size = number_between(size.as_bytes(), 1, 4096)?;
     Some(Generated { number, size })
 }
 

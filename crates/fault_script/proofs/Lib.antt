@@ -1,6 +1,5 @@
 pub mod Counts
 pub mod LineCuts
-pub mod Numbers
 pub mod EventLists
 pub mod Workers
 pub mod ScriptParts

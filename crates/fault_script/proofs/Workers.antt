@@ -8,7 +8,8 @@ use Rattle.cal_base.specs.declared.step.TheConstants.{CALLER}
 use Rattle.event_world.specs.declared.event.Event.{Event}
 use Rattle.event_world.specs.declared.event.Event.TheVariants.{Claim, Finish, Arrive, Stop}
 use Rattle.event_world.specs.Law.{Each, IsOfWorker}
-use Rattle.fault_script.specs.Events.{is_blank, is_numeral, worker_in, number_between, fetch_by, event_named, event_of, is_skipped, told_by, is_wrong, lines_of, events_by, events_of}
+use Rattle.decimal_number.specs.Decimal.{is_numeral, number_between}
+use Rattle.fault_script.specs.Events.{is_blank, worker_in, fetch_by, event_named, event_of, is_skipped, told_by, is_wrong, lines_of, events_by, events_of}
 
 -- the number, where there is one, is a worker's
 abbrev OfOne : Option ℕ → Type 0

@@ -1,9 +1,9 @@
 -- What a list of events says, as bytes.
-use Rattle.std.specs.Prelude.{ℕ, ◌+◌, ◌==◌, nat_le, nat_lt, Bool, true, false, not, ◌&&◌, if◌then◌else◌, List, [], ◌∷◌, length, codes}
+use Rattle.std.specs.Prelude.{ℕ, ◌+◌, ◌==◌, Bool, true, false, not, ◌&&◌, if◌then◌else◌, List, [], ◌∷◌, codes}
 use Rattle.std.specs.Prelude.{Option, Some, None, option_map, is_some, Result, Ok, Err, filter_map, position}
-use Rattle.std.specs.List.{list_all, before_first, after_first}
+use Rattle.std.specs.List.{before_first, after_first}
 use Rattle.std.specs.Str.{bytes_eq}
-use Rattle.std.specs.Str.Parse.{digits_value}
+use Rattle.decimal_number.specs.Decimal.{number_between}
 use Rattle.event_world.specs.declared.event.Event.{Event}
 use Rattle.event_world.specs.declared.event.Event.TheVariants.{Claim, Fetch, Finish, Arrive, Stop}
 
@@ -36,20 +36,6 @@ lines_of (byte ∷ bytes) =
 -- is this a blank?
 abbrev pub is_blank : ℕ → Bool
 is_blank byte = byte == 32
-
--- is this a decimal digit?
-abbrev pub is_digit : ℕ → Bool
-is_digit byte = nat_le 48 byte && nat_le byte 57
-
--- one or more decimal digits
-abbrev pub is_numeral : List ℕ → Bool
-is_numeral text = nat_lt 0 (length text) && list_all is_digit text
-
--- the number that the text is, if it is one and is in the range
-abbrev pub number_between : (least most : ℕ) → List ℕ → Option ℕ
-number_between least most text =
-    if is_numeral text && (nat_le least (digits_value 10 text) && nat_le (digits_value 10 text) most)
-    then Some (digits_value 10 text) else None
 
 -- the number of a worker: 0 to 31
 abbrev pub worker_in : List ℕ → Option ℕ

@@ -7,7 +7,8 @@ ghost use Rattle.fault_script.specs.declared.error.EventsError.TheVariants.{Refu
 
 use crate::error::EventsError;
 use crate::lines::{at_blank, first_line};
-use crate::number::{number_between, worker_in};
+use crate::number::worker_in;
+use decimal_number::number_between;
 use event_world::Event;
 use std::alloc::Global;
 

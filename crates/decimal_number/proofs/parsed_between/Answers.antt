@@ -1,6 +1,6 @@
 use Rattle.std.proofs.Common.{arith}
-use Rattle.fault_script.proofs.Numbers.{too_large}
-use Rattle.fault_script.proofs.number.parsed_between.Goals as goal
+use Rattle.decimal_number.proofs.Numerals.{too_large}
+use Rattle.decimal_number.proofs.parsed_between.Goals as goal
 
 pub returns-in-Err : goal.returns-in-Err
 returns-in-Err c =

@@ -1,7 +1,7 @@
 use Rattle.std.proofs.Common.{◌≡◌, drop}
 use Rattle.std.specs.List.{list_all}
-use Rattle.command_words.specs.Words.{is_digit}
-use Rattle.command_words.proofs.number.are_digits.Given as goal
+use Rattle.decimal_number.specs.Decimal.{is_digit}
+use Rattle.decimal_number.proofs.are_digits.Given as goal
 
 abbrev pub invariant-loop-byte : goal.invariant-loop-byte
 invariant-loop-byte l = list_all is_digit (drop l.byte-index l.bytes) ≡ list_all is_digit l.bytes

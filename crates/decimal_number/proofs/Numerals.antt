@@ -6,7 +6,7 @@ use Rattle.std.specs.Char.{digit_value}
 use Rattle.std.specs.Str.{IsAscii, IsUtf8}
 use Rattle.std.specs.Str.Parse.{AllDigits, IsNumeral, digits_value, without_leading_plus}
 use Rattle.std.proofs.lemmas.Str.{digit_value_digit, IsUtf8-from_ascii}
-use Rattle.fault_script.specs.Events.{is_digit, is_numeral, number_between}
+use Rattle.decimal_number.specs.Decimal.{is_digit, is_numeral, number_between}
 
 -- digits are ASCII
 ascii : (text : List ℕ) → list_all is_digit text ≡ true → IsAscii text
