@@ -8,12 +8,13 @@ ghost use Rattle.calypso_engine.specs.Teams.{IsMember, Gathered};
 
 use crate::options::RunOptions;
 use cal_base::{Gate, JobName};
+use routine_executor::Job;
 use std::sync::ledger::{Blank, Ledger};
 use std::sync::{Mutex, Wait};
 use std::thread::Threads;
 use step_board::Board;
 use step_core::Core;
-use worker_gate::{Job, Worker, work_all};
+use worker_gate::{Worker, work_all};
 
 /// All workers work in a step that has begun, under one lock, each in a thread of its own. The core comes back when all have returned.
 fn gather<

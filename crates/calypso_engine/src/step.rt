@@ -11,13 +11,14 @@ use crate::options::RunOptions;
 use crate::team::Team;
 use cal_base::{Gate, Image, JobName, NoMemory};
 use code_verify::Verified;
+use routine_executor::Job;
 use std::alloc::Global;
 use std::marker::Brand;
 use std::sync::Wait;
 use std::sync::ledger::{Blank, Ledger};
 use std::thread::Threads;
 use step_core::{Closed, Core};
-use worker_gate::{Job, finish};
+use worker_gate::finish;
 
 /// A step under the names of its job and of its four ledgers: the workers work, then the caller completes it, and what it leaves is
 /// installed on the image, unless it ends in a fault. All memory is taken before the step begins.

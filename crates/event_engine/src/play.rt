@@ -23,10 +23,11 @@ use calypso_engine::options::RunOptions;
 use calypso_engine::team::Team;
 use code_verify::Verified;
 use event_world::Event;
+use routine_executor::Job;
 use std::alloc::Global;
 use std::marker::Brand;
 use step_core::{Closed, Core};
-use worker_gate::{Job, Worker, finish};
+use worker_gate::{Worker, finish};
 
 /// Events are applied, from this one on, until the step is complete or none is left. Answers the next one's place. It takes memory.
 fn turns<N: JobName>(

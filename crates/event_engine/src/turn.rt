@@ -17,9 +17,10 @@ use crate::delivery::{Delivery, Fresh};
 use crate::scene::Mode;
 use cal_base::{CALLER, Claimed, JobName, KeptUpdate, NoMemory};
 use event_world::Event;
+use routine_executor::Job;
 use std::alloc::Global;
 use step_core::{Core, Finished};
-use worker_gate::{Job, Worker, execute};
+use worker_gate::{Worker, execute};
 
 /// A worker claims, unless it is busy or has stopped.
 fn claim<N: JobName>(modes: &mut [Mode; 32], core: &mut Core<N>, who: u8)

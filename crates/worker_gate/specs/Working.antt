@@ -14,7 +14,7 @@ use Rattle.machine_meaning.specs.Meaning.{module_memory}
 use Rattle.shared_pages.specs.Cached.{Cached, Fits}
 use Rattle.fault_script.specs.Rows.{Row}
 use Rattle.step_laws.specs.Caller.{pair_of}
-use Rattle.worker_gate.specs.Executing.{KeptPages}
+use Rattle.routine_executor.specs.Executing.{KeptPages}
 
 -- a worker's row and tally, the step of the answer that it holds back, the kinds of the words for which it was made, the pages that it keeps, and what it wrote last
 pub record WorkerState : Type 0 where

@@ -9,9 +9,9 @@ ghost use Rattle.step_laws.specs.Turns.{after_arrival};
 ghost use Rattle.worker_gate.specs.Working.{MayWork, Executes, TookTurn, with_claims, with_pages};
 
 use crate::execution::execute;
-use crate::job::Job;
 use crate::worker::Worker;
 use cal_base::{CALLER, Claimed, JobName, Verdict};
+use routine_executor::Job;
 use step_core::Core;
 
 /// The caller executes routine k and delivers its answer.

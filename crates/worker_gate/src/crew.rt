@@ -4,10 +4,10 @@ ghost use Rattle.std.specs.Thread.{IsSync};
 ghost use Rattle.std.specs.Prelude.{◌≡◌, ◌<◌, ◌≤◌, ◌+◌, ◌∷◌, ◌++◌, [], All, vec_len, vec_capacity};
 ghost use Rattle.worker_gate.specs.Worked.{IsReady, Worked};
 
-use crate::job::Job;
 use crate::worker::Worker;
 use crate::working::work;
 use cal_base::{Gate, JobName};
+use routine_executor::Job;
 use std::sync::ledger::Ledger;
 use std::sync::{Mutex, Wait};
 use std::thread::{Threads, join};

@@ -6,10 +6,9 @@ ghost use Rattle.cal_base.specs.Claims.{size_of};
 ghost use Rattle.worker_gate.specs.Working.{MayWork};
 ghost use Rattle.worker_gate.specs.Lending.{LendsBuffer};
 
-use crate::executor::BufferView;
-use crate::job::Job;
 use crate::worker::Worker;
 use cal_base::JobName;
+use routine_executor::{BufferView, Job};
 use step_core::Finished;
 
 /// Executes routine k of the job on the step's opening image alone. The result is answer k, and lends the worker's buffer.

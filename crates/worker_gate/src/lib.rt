@@ -1,20 +1,14 @@
-//! Workers: the job of a step, executions of its routines, what workers do in a step under a lock, each in a thread of its own, and the
-//! part of the caller, which completes a step by itself.
+//! Workers: what they do in a step under a lock, each in a thread of its own, and the part of the caller, which completes a step by itself.
 #![tactic(auto)]
 
 pub mod caller;
 mod crew;
 pub mod execution;
-pub mod executor;
-pub mod job;
-mod place;
 pub mod worker;
 mod working;
 
 pub use caller::finish;
 pub use crew::work_all;
 pub use execution::execute;
-pub use executor::{BufferView, Executor};
-pub use job::Job;
 pub use worker::{Held, Worker};
 pub use working::work;

@@ -9,14 +9,13 @@ ghost use Rattle.machine_meaning.specs.Meaning.{module_memory};
 ghost use Rattle.fault_script.specs.Rows.{IsTallyOf};
 ghost use Rattle.fault_script.specs.Acts.{counted_as};
 ghost use Rattle.worker_gate.specs.Acting.{held_after};
-ghost use Rattle.worker_gate.specs.Executing.{Asks};
+ghost use Rattle.routine_executor.specs.Executing.{Asks};
 ghost use Rattle.worker_gate.specs.Working.{MayWork, Executes, first_tally, with_claims, kept_by};
 
-use crate::executor::{BufferView, Executor};
-use crate::job::Job;
 use cal_base::{CALLER, Image, JobName, NoMemory, RoutineEnd, WorkerTally};
 use code_verify::Verified;
 use fault_script::{Act, ScriptRow, count_claim, first_tally};
+use routine_executor::{BufferView, Executor, Job};
 use std::alloc::Global;
 use std::marker::Model;
 

@@ -8,11 +8,10 @@ ghost use Rattle.worker_gate.specs.Working.{MayWork, Executes};
 ghost use Rattle.worker_gate.specs.Worked.{Counts, IsReady, IsLeft, late, ends};
 
 use crate::execution::execute;
-use crate::executor::BufferView;
-use crate::job::Job;
 use crate::worker::{Held, Worker};
 use cal_base::{CALLER, Claimed, Gate, JobName, Point};
 use fault_script::Act;
+use routine_executor::{BufferView, Job};
 use std::sync::ledger::Ledger;
 use std::sync::{Mutex, Wait};
 use step_board::{Board, WorkerShares};

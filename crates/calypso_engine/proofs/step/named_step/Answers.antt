@@ -9,7 +9,7 @@ use Rattle.step_laws.specs.Caller.{completed}
 use Rattle.worker_gate.specs.Working.{MayWork}
 use Rattle.worker_gate.specs.Worked.{IsLeft}
 use Rattle.worker_gate.proofs.Later.{may_work_later}
-use Rattle.worker_gate.proofs.Numbers.{size_is}
+use Rattle.routine_executor.proofs.Numbers.{size_is}
 use Rattle.calypso_engine.specs.Running.{Counted}
 use Rattle.calypso_engine.specs.Teams.{ClaimedMore}
 use Rattle.calypso_engine.specs.declared.team.Team.{Team}

@@ -8,7 +8,7 @@ use Rattle.cal_base.specs.Pages.{Paged}
 use Rattle.event_world.specs.World.{Mode, Delivery, freed}
 use Rattle.worker_gate.specs.Working.{WorkerState, MayWork}
 use Rattle.worker_gate.proofs.Later.{may_work_later}
-use Rattle.worker_gate.proofs.Numbers.{size_is}
+use Rattle.routine_executor.proofs.Numbers.{size_is}
 use Rattle.event_engine.specs.Resuming.{resume_in}
 use Rattle.event_engine.specs.Scenes.{modes_in, turn_at, Work}
 use Rattle.event_engine.proofs.Playing.{whole_step}

@@ -4,7 +4,7 @@ use Rattle.cal_base.specs.History.{History, claims_by, is_caller}
 use Rattle.cal_base.specs.Claims.{size_of}
 use Rattle.step_laws.specs.Caller.{with_pairs, completed}
 use Rattle.worker_gate.specs.Working.{with_claims, with_pages}
-use Rattle.worker_gate.proofs.Numbers.{size_is}
+use Rattle.routine_executor.proofs.Numbers.{size_is}
 use Rattle.worker_gate.proofs.Turns.{turned, ended, whole_complete}
 use Rattle.worker_gate.proofs.caller.take_turns.Goals as goal
 

@@ -2,7 +2,7 @@
 
 ghost use Rattle.std.specs.Prelude.{◌≡◌, ◌+◌, ◌≤◌, length, sum};
 ghost use Rattle.engine_laws.specs.Steps.{step_job};
-ghost use Rattle.worker_gate.specs.Jobs.{jobs_are-set};
+ghost use Rattle.routine_executor.specs.Jobs.{jobs_are-set};
 
 use cal_base::{Image, JobName};
 use code_verify::Verified;

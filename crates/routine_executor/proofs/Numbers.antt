@@ -14,8 +14,8 @@ use Rattle.machine_meaning.specs.Meaning.{blocks_of, answered, routine_outcome}
 use Rattle.routine_vm.specs.Held.{IsOutcome}
 use Rattle.engine_laws.specs.Steps.{step_job}
 use Rattle.engine_laws.proofs.Answers.{answers_are_all, answers_go_by_blocks}
-use Rattle.worker_gate.specs.declared.place.Place.{Place}
-use Rattle.worker_gate.specs.Places.{IsPlace}
+use Rattle.routine_executor.specs.declared.place.Place.{Place}
+use Rattle.routine_executor.specs.Places.{IsPlace}
 
 -- as many blocks as there are widths
 length_blocks : (m : Module) (first n : ℕ) → first + n ≤ length m.blocks → length (blocks_of m first n) ≡ n

@@ -1,5 +1,5 @@
 use Rattle.write_buffer.proofs.Views.{joined_stays}
-use Rattle.worker_gate.proofs.executor.fetch_over.Goals as goal
+use Rattle.routine_executor.proofs.executor.fetch_over.Goals as goal
 
 pub returns-clause-joined : goal.returns-clause-joined
 returns-clause-joined c =

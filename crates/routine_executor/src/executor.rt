@@ -11,7 +11,7 @@ ghost use Rattle.machine_meaning.specs.Meaning.{module_memory};
 ghost use Rattle.shared_pages.specs.Cached.{Serves};
 ghost use Rattle.write_buffer.specs.Buffered.{written_of};
 ghost use Rattle.write_buffer.specs.Joined.{Joined};
-ghost use Rattle.worker_gate.specs.Executing.{MayExecute, HoldsFrames, cache_of, Asks};
+ghost use Rattle.routine_executor.specs.Executing.{MayExecute, HoldsFrames, cache_of, Asks};
 
 use crate::job::Job;
 use crate::place::place_of;
@@ -34,7 +34,7 @@ pub struct Executor {
 
 impl Model for Executor {
     ghost use Rattle.write_buffer.specs.Buffered.{written_of};
-    ghost use Rattle.worker_gate.specs.Executing.{Executing, HoldsFrames};
+    ghost use Rattle.routine_executor.specs.Executing.{Executing, HoldsFrames};
 
     ghost Value = { Executing };
 

@@ -1,7 +1,7 @@
 use Rattle.std.proofs.Common.{ap, arith, refl, rules}
 use Rattle.cal_base.specs.Pages.{Paged}
-use Rattle.worker_gate.proofs.Numbers.{number_there, block_there, routine_answers}
-use Rattle.worker_gate.proofs.executor.run_over.Goals as goal
+use Rattle.routine_executor.proofs.Numbers.{number_there, block_there, routine_answers}
+use Rattle.routine_executor.proofs.executor.run_over.Goals as goal
 
 pub place_of-place-requires-clause-there : goal.place_of-place-requires-clause-there
 place_of-place-requires-clause-there g c =

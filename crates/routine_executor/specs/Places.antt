@@ -1,6 +1,6 @@
 -- Where a routine of a step stands.
 use Rattle.std.specs.Prelude.{◌≡◌, ℕ, ◌+◌, ◌<◌, List, take, sum, Some, slice_get}
-use Rattle.worker_gate.specs.declared.place.Place.{Place}
+use Rattle.routine_executor.specs.declared.place.Place.{Place}
 
 -- the place of number k: a block, its width, and a number below it, so that k is the sum of the widths before the block and this number
 pub record IsPlace (widths : List ℕ) (k : ℕ) (place : Place) : Type 0 where

@@ -1,7 +1,7 @@
 //! Where a routine of a step stands.
 
 ghost use Rattle.std.specs.Prelude.{◌<◌, ◌^◌, length, sum};
-ghost use Rattle.worker_gate.specs.Places.{IsPlace};
+ghost use Rattle.routine_executor.specs.Places.{IsPlace};
 
 /// A routine's block, from 0, that block's width, and the routine's number in it, from 0.
 #[derive(Clone, Copy, PartialEq, Eq, Debug)]

@@ -1,5 +1,5 @@
 use Rattle.std.proofs.Common.{◌≡◌, ◌+◌, take, sum}
-use Rattle.worker_gate.proofs.place.place_of.Given as goal
+use Rattle.routine_executor.proofs.place.place_of.Given as goal
 
 -- the widths so far are fewer routines than the number says
 abbrev pub invariant-loop-block : goal.invariant-loop-block
