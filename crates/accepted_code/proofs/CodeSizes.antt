@@ -364,9 +364,9 @@ mutual
 
 -- ---- the routine blocks of the steps of a statement
 
--- its body is spelled, and its code has at most so many instructions
+-- its body is spelled, its code has at most so many instructions, and it prints at most so many texts and opens at most so many routine blocks
 abbrev pub RoutineFits : Program → ℕ → RoutineBlock → Type 0
-RoutineFits p limit (RoutineBlock' at width width_name id_name shape body) = RowSpelled body × ((slots : Slots) (slot : ℕ) → row_size p body slots slot ≤ limit)
+RoutineFits p limit (RoutineBlock' at width width_name id_name shape body) = RowSpelled body × ((slots : Slots) (slot : ℕ) → row_size p body slots slot ≤ limit) × (length (texts_in_row body) ≤ limit) × (length (steps_in_row body) ≤ limit)
 
 pub record RoutinesFit (p : Program) (limit : ℕ) (blocks : List RoutineBlock) : Type 0 where
   pub each : AllByRecursion (RoutineFits p limit) blocks
@@ -385,7 +385,7 @@ module _ (p : Program) (limit : ℕ) where
   blocks_fit : {n : _} (blocks : Row_of-RoutineBlock n) → BlocksSpelled blocks → 4 * blocks_tokens blocks ≤ limit → RoutinesFit p limit (blocks_in blocks)
   blocks_fit end_of-RoutineBlock h small = none_fit
   blocks_fit (more_of-RoutineBlock (RoutineBlock' at width width_name id_name shape body) rest) h small =
-      record { each = ((h.1, λ slots slot. omega (arith, small, row_bounded p body slots slot)), (blocks_fit rest h.2 (omega (arith, small))).each) }
+      record { each = ((h.1, λ slots slot. omega (arith, small, row_bounded p body slots slot), omega (arith, small, row_texts_bounded body), omega (arith, small, row_steps_bounded body)), (blocks_fit rest h.2 (omega (arith, small))).each) }
 
   mutual
     pub steps_fit : (f : Form) → FormSpelled f → 4 * form_tokens f ≤ limit → RoutinesFit p limit (steps_in f)

@@ -33,9 +33,10 @@ use Rattle.accepted_code.proofs.CodeSizes.{row_tokens, block_counted, row_bounde
 abbrev pub code_limit : ℕ
 code_limit = 4 * (text_limit + 1)
 
--- a body is spelled, and its code is within the limit
+-- a body is spelled, and its code, its texts and its routine blocks are within the limit
 abbrev pub BodyFits : Program → List Stmt → Type 0
 BodyFits p body = FormSpelled (variant.Block body) × ((slots : Slots) (slot : ℕ) → form_size p (variant.Block body) slots slot ≤ code_limit)
+    × (length (texts_in (variant.Block body)) ≤ code_limit) × (length (steps_in (variant.Block body)) ≤ code_limit)
 
 -- an array is of ordinary words
 abbrev pub IsPlainArray : Shared → Type 0
@@ -156,7 +157,10 @@ module _ (p : Program) where
   body_fits : {tokens rest : List Token} {body : List Stmt} → SpellsBlock tokens rest body → Onward text_limit tokens → length tokens ≤ text_limit + 1 → BodyFits p body
   body_fits {body = body} d o few =
       let all : _ × _ = block_stands text_limit d o in
-      (all.0.0, λ slots slot. omega (arith, few, block_counted d, row_bounded p (hidden-the_row-Stmt-1 body) slots slot))
+      (all.0.0,
+      λ slots slot. omega (arith, few, block_counted d, row_bounded p (hidden-the_row-Stmt-1 body) slots slot),
+      omega (arith, few, block_counted d, row_texts_bounded (hidden-the_row-Stmt-1 body)),
+      omega (arith, few, block_counted d, row_steps_bounded (hidden-the_row-Stmt-1 body)))
 
   function_fits : {tokens rest : List Token} {f : Function} → SpellsFunction tokens rest f → Onward text_limit tokens → length tokens ≤ text_limit + 1 → BodyFits p f.body × Onward text_limit rest
   function_fits (function w n k q c b) o few =

@@ -16,6 +16,7 @@ use Rattle.compiled_code.specs.Modules.{block_code}
 use Rattle.compiled_code.specs.Shape.{FormIs, BlocksAre}
 use Rattle.expression_code.specs.Lists.{steps_of, steps_of_arms, steps_of_last, RoutinesAre}
 use Rattle.expression_code.proofs.RowLemmas.{blocks_is}
+use Rattle.compile_steps.specs.Writing.{BlocksFit}
 use Rattle.compile_steps.proofs.Bridges.{steps_row, steps_if, row_are}
 
 pub steps_block : (f : Form) (body : List Stmt) → f ≡ form.Block body → steps_in f ≡ steps_of body
@@ -51,3 +52,23 @@ module _ (p : Program) where
 
   pub is_par : (f : Form) (blocks shown : List RoutineBlock) → f ≡ form.Par blocks → shown ≡ blocks → FormIs p f → RoutinesAre p shown
   is_par f blocks shown e same h = subst (λ (l : List RoutineBlock). RoutinesAre p l) (sym same) (routines_are blocks (subst (λ (g : Form). FormIs p g) e h))
+
+  -- what holds of blocks holds of both parts of their list
+  pub first_fit : (xs ys : List RoutineBlock) → BlocksFit p (xs ++ ys) → BlocksFit p xs
+  first_fit [] ys h = tt
+  first_fit (x ∷ xs) ys h = (h.0, first_fit xs ys h.1)
+
+  pub others_fit : (xs ys : List RoutineBlock) → BlocksFit p (xs ++ ys) → BlocksFit p ys
+  others_fit [] ys h = h
+  others_fit (x ∷ xs) ys h = others_fit xs ys h.1
+
+  pub if_first_fit : (f : Form) (arms shown : List Arm) (last : Option (List Stmt)) → f ≡ form.If arms last → shown ≡ arms → BlocksFit p (steps_in f) → BlocksFit p (steps_of_arms shown)
+  if_first_fit f arms shown last e same h =
+      subst (λ (a : List Arm). BlocksFit p (steps_of_arms a)) (sym same) (first_fit (steps_of_arms arms) (steps_of_last last) (subst (BlocksFit p) (ap steps_in e ∙ steps_if arms last) h))
+
+  pub if_last_fit : (f : Form) (arms : List Arm) (last : Option (List Stmt)) (body shown : List Stmt) → f ≡ form.If arms last → last ≡ Some body → shown ≡ body → BlocksFit p (steps_in f) → BlocksFit p (steps_of shown)
+  if_last_fit f arms last body shown e some same h =
+      subst (λ (b : List Stmt). BlocksFit p (steps_of b)) (sym same) (others_fit (steps_of_arms arms) (steps_of body) (subst (BlocksFit p) (steps_if_some f arms last body e some) h))
+
+  pub as_fit : (f : Form) (body shown : List Stmt) → steps_in f ≡ steps_of body → shown ≡ body → BlocksFit p (steps_in f) → BlocksFit p (steps_of shown)
+  as_fit f body shown e same h = subst (λ (b : List Stmt). BlocksFit p (steps_of b)) (sym same) (subst (BlocksFit p) e h)

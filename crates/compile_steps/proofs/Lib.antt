@@ -5,3 +5,4 @@ pub mod ModuleLemmas
 pub mod SharedLemmas
 pub mod TextLemmas
 pub mod Written
+pub mod Room

@@ -1,11 +1,17 @@
 -- What an accepted program gives to those that write its code.
-use Rattle.std.proofs.Common.{append_assoc, drop, get_or, ◌+◌, ◌≡◌, ◌≤◌, ◌<◌, ℕ, ℤ, List, [], ◌∷◌, ◌++◌, length, map, Some, sym, ap, subst, ◌∙◌}
+use Rattle.std.proofs.Common.{suc, refl, length-append, arith, append_assoc, drop, get_or, ◌+◌, ◌≡◌, ◌≤◌, ◌<◌, ℕ, ℤ, List, [], ◌∷◌, ◌++◌, length, map, Some, sym, ap, subst, ◌∙◌}
 use Rattle.std.specs.Prelude.{slice_get}
 use Rattle.std.specs.List.{AllByRecursion}
 use Rattle.csl_tree.specs.declared.program.Program.{Program}
 use Rattle.csl_tree.specs.declared.program.Function.{Function}
 use Rattle.csl_tree.specs.declared.program.Shared.{Shared}
 use Rattle.csl_tree.specs.declared.program.Stmt.{Stmt}
+use Rattle.csl_tree.specs.declared.program.Form.TheVariants as form
+use Rattle.csl_tree.specs.declared.program.RoutineBlock.{RoutineBlock, out-RoutineBlock, is-RoutineBlock'}
+use Rattle.std.proofs.lemmas.List.{length-map}
+use Rattle.compiled_code.specs.Slots.{Slots, kind_of}
+use Rattle.compiled_code.specs.Sizes.{texts_in, steps_in}
+use Rattle.compiled_code.specs.Places.{form_size}
 use Rattle.bytecode.specs.declared.module.Code.{Code}
 use Rattle.csl_grammar.specs.Texts.{IsSpelledWithin, text_limit}
 use Rattle.csl_meaning.specs.Layout.{Text, first_memory}
@@ -16,21 +22,28 @@ use Rattle.bytecode.specs.declared.module.Module.{Module}
 use Rattle.bytecode.specs.Spelling.{FitsByte}
 use Rattle.code_verify.specs.Rules.{IsVerified}
 use Rattle.machine_meaning.specs.Meaning.{machine_main, machine_meaning}
-use Rattle.compiled_code.specs.Modules.{tallies_from, initial_from, function_code, block_code, main_code, module_of}
+use Rattle.compiled_code.specs.Modules.{with_params, routine_slots, tallies_from, initial_from, function_code, block_code, main_code, module_of}
 use Rattle.compiled_code.specs.Laws.{HasRoutines}
 use Rattle.compiled_code.proofs.Meaning.{means_the_same, opens_the_same, has_routines}
 use Rattle.type_check.specs.Faults.{IsAccepted}
+use Rattle.type_check.proofs.Facts.{accepted-count}
 use Rattle.accepted_code.proofs.Accepted.{accepted_shape}
 use Rattle.cal_terms.proofs.Lists.{next_item}
 use Rattle.accepted_code.specs.Laws.{HasBytes}
 use Rattle.accepted_code.proofs.Verified.{is_verified}
 use Rattle.accepted_code.proofs.Named.{named_is}
-use Rattle.accepted_code.proofs.Parts.{spelled_program}
+use Rattle.accepted_code.proofs.Parts.{code_limit, spelled_program, function_spelled, block_spelled}
+use Rattle.accepted_code.proofs.CodeSizes.{RoutineFits}
 use Rattle.accepted_code.proofs.SharedWords.{shared_means}
-use Rattle.accepted_code.proofs.Bodies.{few_params}
-use Rattle.expression_code.specs.Lists.{texts_of, steps_of, StatementsAre}
+use Rattle.accepted_code.proofs.Bodies.{few_params, main_locals, block_locals, function_locals}
+use Rattle.accepted_code.proofs.ModuleLists.{module_words}
+use Rattle.expression_code.specs.Counts.{IsSmall, words_in_all}
+use Rattle.compile_steps.proofs.SharedLemmas.{all_words}
+use Rattle.expression_code.specs.Lists.{kinds_of, texts_of, steps_of, StatementsAre}
+use Rattle.expression_code.proofs.StatementSizes.{row_is}
+use Rattle.compile_steps.specs.Writing.{BodyFits, BlockFits, BlocksFit}
 use Rattle.compile_steps.proofs.Bridges.{texts_row, steps_row}
-use Rattle.compile_steps.proofs.BodyLemmas.{body_shape}
+use Rattle.compile_steps.proofs.BodyLemmas.{function_is, main_is, block_is, body_shape}
 
 module _ (p : Program) (spelled : IsSpelledWithin text_limit p) (accepted : IsAccepted p) where
   -- the body of a function has the shape that its code asks for
@@ -44,6 +57,63 @@ module _ (p : Program) (spelled : IsSpelledWithin text_limit p) (accepted : IsAc
   -- and so has main
   pub main_shape : StatementsAre p p.main
   main_shape = body_shape p p.main (accepted_shape p spelled accepted).main
+
+-- all entries of a list, by their places
+all_places : {X : Type 0} {P : X → Type 0} (xs : List X) → ((n : ℕ) (x : X) → slice_get xs n ≡ Some x → P x) → AllByRecursion P xs
+all_places [] h = tt
+all_places (x ∷ xs) h = (h 0 x refl, all_places xs (λ n y e. h (suc n) y e))
+
+module _ (p : Program) (spelled : IsSpelledWithin text_limit p) (accepted : IsAccepted p) where
+  -- there is room for the code of a body, of so many instructions and locals
+  body_room : (body : List Stmt) (slots : Slots) (slot : ℕ) → form_size p (form.Block body) slots slot ≤ code_limit → slot + length (kinds_of body) ≤ 64
+      → length (texts_in (form.Block body)) ≤ code_limit → length (steps_in (form.Block body)) ≤ code_limit → BodyFits p body slots slot
+  body_room body slots slot size locals texts steps = record {
+    room = let same = row_is p body slots slot in omega (arith, size, same, locals);
+    text = let same = ap length (texts_row body) in omega (arith, texts, same);
+    block = let same = ap length (steps_row body) in omega (arith, steps, same);
+  }
+
+  -- for that of a function
+  pub function_room : (k : ℕ) (f : Function) → slice_get p.functions k ≡ Some f → BodyFits p f.body (with_params [] f.params) (length f.params)
+  function_room k f e =
+      let parts = function_spelled p (spelled_program p spelled) k f e in
+      let locals = function_locals p accepted (shared_means p accepted (spelled_program p spelled).arrays) k f e in
+      let same = ap (λ (c : Code). length c.locals) (function_is p f) in
+      let both = length-append (map (λ q. kind_of q.ty) f.params) (kinds_of f.body) in
+      let params = length-map f.params (λ q. kind_of q.ty) in
+      body_room f.body (with_params [] f.params) (length f.params) (parts.1 (with_params [] f.params) (length f.params)) (omega (arith, locals, same, both, params)) parts.2 parts.3
+
+  -- for that of main
+  pub main_room : BodyFits p p.main [] 0
+  main_room =
+      let parts = (spelled_program p spelled).main in
+      let locals = main_locals p accepted in
+      let same = ap (λ (c : Code). length c.locals) (main_is p) in
+      body_room p.main [] 0 (parts.1 [] 0) (omega (arith, locals, same)) parts.2 parts.3
+
+  block_room : (b : RoutineBlock) → RoutineFits p code_limit b → length (block_code p b).locals ≤ 64 → BlockFits p b
+  block_room b h locals =
+      let body = (out-RoutineBlock b).body in
+      let slots = routine_slots (out-RoutineBlock b).width_name.text (out-RoutineBlock b).id_name.text in
+      let parts = subst (RoutineFits p code_limit) (is-RoutineBlock' b) h in
+      let same = ap (λ (c : Code). length c.locals) (block_is p b) in
+      body_room body slots 2 (parts.1 slots 2) (omega (arith, locals, same)) parts.2 parts.3
+
+  -- and for those of the routine blocks
+  pub blocks_room : BlocksFit p (steps_of p.main)
+  blocks_room =
+      subst (BlocksFit p) (steps_row p.main)
+      (all_places (steps_in (form.Block p.main)) (λ n b e. block_room b (block_spelled p (spelled_program p spelled) n b e) (block_locals p accepted n b e)))
+
+-- an accepted program has fewer than 2^32 words, by one of two counts, and functions
+pub few_words : (p : Program) (shared : List Shared) → shared ≡ p.shared → IsAccepted p → IsSmall (length (first_memory shared))
+few_words p shared e accepted = omega (arith, ap (λ (l : List Shared). length (first_memory l)) e, module_words p accepted)
+
+pub few_words_in_all : (p : Program) → IsAccepted p → IsSmall (words_in_all p.shared)
+few_words_in_all p accepted = omega (arith, all_words p.shared, module_words p accepted)
+
+pub few_functions : (p : Program) → IsAccepted p → IsSmall (length p.functions)
+few_functions p accepted = omega (arith, accepted-count p accepted)
 
 -- the module of a program, over the lists of its parts
 pub module_is : (p : Program) → module_of p ≡ record {

@@ -1,6 +1,6 @@
 -- The words of shared declarations: their tally words, and those that do not begin at 0.
 use Rattle.std.proofs.Common.{◌≡◌, ℕ, zero, suc, ℤ, pos, ◌+◌, ◌<◌, ◌≤◌, Bool, true, false, if◌then◌else◌, List, [], ◌∷◌, ◌++◌, length, map, drop, replicate, Option, Some, None, refl, sym, ap, ◌∙◌, arith, get_or, length-append}
-use Rattle.std.specs.Prelude.{slice_get, unwrap_or}
+use Rattle.std.specs.Prelude.{slice_get}
 use Rattle.std.specs.Ordering.{int_eq}
 use Rattle.std.proofs.lemmas.List.{drop_all}
 use Rattle.std.proofs.lemmas.Option.{slice_get-get_or}
@@ -9,8 +9,10 @@ use Rattle.cal_terms.specs.declared.kinds.WordKind.TheVariants.{Ordinary, Tally}
 use Rattle.cal_base.specs.Memory.{Memory, memory_of}
 use Rattle.csl_tree.specs.declared.program.Shared.{Shared}
 use Rattle.csl_tree.specs.declared.program.Valued.{Valued}
-use Rattle.csl_meaning.specs.Layout.{word_count, words_in, first_words, first_memory}
+use Rattle.cal_terms.proofs.Lists.{next_item}
+use Rattle.csl_meaning.specs.Layout.{words_in, first_words, first_memory}
 use Rattle.compiled_code.specs.Modules.{with_tally, tallies_from, initial_from}
+use Rattle.expression_code.specs.Counts.{words_in_all}
 use Rattle.accepted_code.proofs.SharedWords.{length_words, tallies_append, no_tallies}
 
 -- ---- two memories, one behind the other
@@ -131,11 +133,6 @@ initial_rest at s i le = let same = numbers_length s.values in zeros_left (words
 
 -- ---- all declarations
 
--- a scalar takes one word
-pub count_of : (size : Option ℕ) → unwrap_or size 1 ≡ word_count size
-count_of None = refl
-count_of (Some n) = refl
-
 -- what is listed of declarations, and of those behind the first one
 pub tallies_more : (at next : ℕ) (left : List Shared) (s : Shared) (rest : List Shared) → left ≡ s ∷ rest → next ≡ at + words_in s → tallies_from at (first_memory left) ≡ tallies_from at (first_words s) ++ tallies_from next (first_memory rest)
 tallies_more at next left s rest e here =
@@ -157,3 +154,12 @@ length_more at next left s rest e here =
     let more = ap (λ (all : List Shared). length (first_memory all)) e ∙ length-append (first_words s) (first_memory rest) in
     let own = length_words s in
     omega (arith, here, more, own)
+
+-- the words of the next declaration are among those that are left
+pub words_left : (all : List Shared) (i : ℕ) (s : Shared) → i < length all → s ≡ get_or all i s → length (first_memory (drop i all)) ≡ words_in s + length (first_memory (drop (i + 1) all))
+words_left all i s within at = omega (arith, length_more 0 (words_in s) (drop i all) s (drop (i + 1) all) (next_item all i s within at) (omega arith))
+
+-- all words stand in the first memory
+pub all_words : (shared : List Shared) → words_in_all shared ≡ length (first_memory shared)
+all_words [] = refl
+all_words (s ∷ rest) = omega (arith, length-append (first_words s) (first_memory rest), length_words s, all_words rest)

@@ -119,33 +119,33 @@ left_one : (slots : Slots) (slot : ℕ) (f : Form) → take (length slots) (slot
 left_one slots slot f = let grown = slots_grow slots slot f in ap (take (length slots)) grown.1 ∙ take-append_seam slots grown.0
 
 -- a change declares nothing, prints nothing and opens nothing; nor does a declaration but for its local
-change_slots : (slots : Slots) (slot : ℕ) (f : Form) → IsChange f → slots_after slots slot f ≡ slots
+pub change_slots : (slots : Slots) (slot : ℕ) (f : Form) → IsChange f → slots_after slots slot f ≡ slots
 change_slots slots slot (Set place e) is = refl
 change_slots slots slot (AddTo place e) is = refl
 change_slots slots slot _ is = absurd is
 
-change_kinds : (f : Form) → IsChange f → kinds_in f ≡ []
+pub change_kinds : (f : Form) → IsChange f → kinds_in f ≡ []
 change_kinds (Set place e) is = refl
 change_kinds (AddTo place e) is = refl
 change_kinds _ is = absurd is
 
-change_texts : (f : Form) → IsChange f → texts_in f ≡ []
+pub change_texts : (f : Form) → IsChange f → texts_in f ≡ []
 change_texts (Set place e) is = refl
 change_texts (AddTo place e) is = refl
 change_texts _ is = absurd is
 
-change_steps : (f : Form) → IsChange f → steps_in f ≡ []
+pub change_steps : (f : Form) → IsChange f → steps_in f ≡ []
 change_steps (Set place e) is = refl
 change_steps (AddTo place e) is = refl
 change_steps _ is = absurd is
 
-simple_texts : (f : Form) → IsSimple f → texts_in f ≡ []
+pub simple_texts : (f : Form) → IsSimple f → texts_in f ≡ []
 simple_texts (Declare ty name e) is = refl
 simple_texts (Set place e) is = refl
 simple_texts (AddTo place e) is = refl
 simple_texts _ is = absurd is
 
-simple_steps : (f : Form) → IsSimple f → steps_in f ≡ []
+pub simple_steps : (f : Form) → IsSimple f → steps_in f ≡ []
 simple_steps (Declare ty name e) is = refl
 simple_steps (Set place e) is = refl
 simple_steps (AddTo place e) is = refl
@@ -197,7 +197,7 @@ module _ (p : Program) where
       }
 
   -- the code of a test and of its branch is as long as this
-  test_long : (test : Expr) (slots : Slots) (at out : ℕ) → length (code_of p slots test at ++ i.Branch out ∷ []) ≡ size_of test + 1
+  pub test_long : (test : Expr) (slots : Slots) (at out : ℕ) → length (code_of p slots test at ++ i.Branch out ∷ []) ≡ size_of test + 1
   test_long test slots at out = length_both (code_of p slots test at) (i.Branch out ∷ []) (size_of test) 1 (expr_length p slots test at) refl
 
   -- one statement more

@@ -1,12 +1,13 @@
 -- Code as it is written, instruction by instruction.
-use Rattle.std.specs.Prelude.{◌≡◌, ℕ, ◌+◌, List, [], ◌∷◌, ◌++◌, length, Option}
+use Rattle.std.specs.Prelude.{◌≡◌, ℕ, ◌+◌, List, [], ◌∷◌, ◌++◌, length, Option, None, Some}
+use Rattle.std.specs.List.{AllByRecursion}
 use Rattle.csl_tree.specs.declared.program.Program.{Program}
 use Rattle.cal_terms.specs.declared.types.Ty.{Ty as Type'}
 use Rattle.csl_tree.specs.declared.program.Expr.{Expr}
 use Rattle.csl_tree.specs.declared.program.Item.{Item}
 use Rattle.csl_tree.specs.declared.program.Stmt.{Stmt}
 use Rattle.csl_tree.specs.declared.program.Arm.{Arm}
-use Rattle.csl_tree.specs.declared.program.RoutineBlock.{RoutineBlock}
+use Rattle.csl_tree.specs.declared.program.RoutineBlock.{RoutineBlock, out-RoutineBlock}
 use Rattle.csl_tree.specs.declared.program.Form.{Form}
 use Rattle.csl_meaning.specs.Layout.{Text}
 use Rattle.bytecode.specs.declared.instr.Instr.{Instr}
@@ -15,14 +16,22 @@ use Rattle.compiled_code.specs.Slots.{Slots, with_slot, kind_of}
 use Rattle.compiled_code.specs.Sizes.{size_of, kinds_in, texts_in, steps_in, item_texts}
 use Rattle.compiled_code.specs.Places.{slots_after}
 use Rattle.compiled_code.specs.Values.{code_of}
-use Rattle.compiled_code.specs.Statements.{At, Exits, form_code, items_code, printed_items, widths_code}
+use Rattle.compiled_code.specs.Statements.{At, Exits, past, beyond, form_code, items_code, printed_items, widths_code}
+use Rattle.compiled_code.specs.Modules.{beginning, routine_slots}
 use Rattle.expression_code.specs.declared.writer.Writer.{Writer}
 use Rattle.compile_steps.specs.declared.statements.Around.{Around}
-use Rattle.expression_code.specs.Lists.{statements_size, step_size, slots_after_all, kinds_of, kinds_of_arms, kinds_of_last, texts_of, texts_of_arms, texts_of_last, steps_of, steps_of_arms, steps_of_last, statements_code, all_arms_code, last_block_code, while_code}
+use Rattle.expression_code.specs.Counts.{IsSmall}
+use Rattle.expression_code.specs.Lists.{beyond_all, beyond_all_arms, statements_size, step_size, slots_after_all, kinds_of, kinds_of_arms, kinds_of_last, texts_of, texts_of_arms, texts_of_last, steps_of, steps_of_arms, steps_of_last, statements_code, all_arms_code, last_block_code, while_code}
 
 -- where the next statement's code begins, and its locals, texts and blocks
 abbrev pub here : Writer → At
 here w = record { place = length w.instrs; slot = w.scope.next; text = w.text; block = w.block }
+
+-- numbers of 32 bits say where code goes on, and how many instructions and locals there are in all
+pub record Fits (at : At) : Type 0 where
+  pub room : IsSmall (at.place + at.slot)
+  pub text : IsSmall at.text
+  pub block : IsSmall at.block
 
 -- this code was written; these locals are visible; so many locals were declared, texts printed and blocks opened
 pub record Wrote (code : List Instr) (visible : Slots) (declared printed opened : ℕ) (old new : Writer) : Type 0 where
@@ -37,6 +46,44 @@ abbrev pub WroteCode : List Instr → Writer → Writer → Type 0
 WroteCode code old new = Wrote code old.scope.slots 0 0 0 old new
 
 module _ (p : Program) where
+  -- there is room for a statement
+  abbrev pub FormFits : Form → Writer → Type 0
+  FormFits f w = Fits (beyond p w.scope.slots (here w) f)
+
+  -- for statements
+  abbrev pub AllFit : List Stmt → Writer → Type 0
+  AllFit body w = Fits (beyond_all p w.scope.slots (here w) body)
+
+  -- for the arms of an `if`
+  abbrev pub ArmsFit : List Arm → Writer → Type 0
+  ArmsFit arms w = Fits (beyond_all_arms p w.scope.slots (here w) arms)
+
+  -- for the last block of an `if`, if there is one
+  abbrev pub LastFits : Option (List Stmt) → Writer → Type 0
+  LastFits None w = Fits (here w)
+  LastFits (Some body) w = AllFit body w
+
+  -- for a test, its branch, a block and a jump
+  abbrev pub WhileFits : Expr → List Stmt → Writer → Type 0
+  WhileFits test body w = Fits (past p (beyond_all p w.scope.slots (here w) body) (size_of test + 2))
+
+  -- for a test, its branch, a block, a statement behind it and a jump, and as many locals as instructions
+  abbrev pub TestFits : Expr → List Stmt → Option Form → Writer → Type 0
+  TestFits test body next w =
+      IsSmall (length w.instrs + w.scope.next + size_of test + statements_size p body w.scope.slots w.scope.next + step_size p next w.scope.slots (w.scope.next + length (kinds_of body)) + 2)
+
+  -- for the body of a code, in which these locals are visible and so many declared at first
+  abbrev pub BodyFits : List Stmt → Slots → ℕ → Type 0
+  BodyFits body slots slot = Fits (beyond_all p slots (beginning slot) body)
+
+  -- for the body of a routine block
+  abbrev pub BlockFits : RoutineBlock → Type 0
+  BlockFits b = BodyFits (out-RoutineBlock b).body (routine_slots (out-RoutineBlock b).width_name.text (out-RoutineBlock b).id_name.text) 2
+
+  -- for the bodies of routine blocks
+  abbrev pub BlocksFit : List RoutineBlock → Type 0
+  BlocksFit blocks = AllByRecursion BlockFits blocks
+
   -- a declaration
   abbrev pub WroteDeclare : Type' → Text → Expr → Writer → Writer → Type 0
   WroteDeclare ty name e old new =

@@ -5,6 +5,7 @@ ghost use Rattle.compiled_code.specs.Sizes.{steps_in};
 ghost use Rattle.compiled_code.specs.Modules as modules;
 ghost use Rattle.compiled_code.specs.Shape.{FormIs};
 ghost use Rattle.expression_code.specs.Lists.{steps_of, steps_of_arms, StatementsAre, AllArmsAre, RoutinesAre};
+ghost use Rattle.compile_steps.specs.Writing.{BlocksFit};
 
 use crate::bodies::block_code;
 use bytecode::Code;
@@ -22,6 +23,7 @@ fn push_step_blocks(
     blocks: &[RoutineBlock],
 ) -> Result<(), NoMemory>
     requires shape { RoutinesAre names.now blocks.now }
+    requires room { BlocksFit names.now blocks.now }
     ensures { OnOk result (codes.new ≡ codes.old ++ map (λ b. modules.block_code names.now b) blocks.now) }
 {
     for block in blocks {
@@ -39,6 +41,7 @@ pub fn push_blocks(
     body: &[Stmt],
 ) -> Result<(), NoMemory>
     requires shape { StatementsAre names.now body.now }
+    requires room { BlocksFit names.now (steps_of body.now) }
     ensures { OnOk result (codes.new ≡ codes.old ++ map (λ b. modules.block_code names.now b) (steps_of body.now)) }
 {
     for s in body {
@@ -56,6 +59,7 @@ fn push_form_blocks(
     form: &Form,
 ) -> Result<(), NoMemory>
     requires shape { FormIs names.now form.now }
+    requires room { BlocksFit names.now (steps_in form.now) }
     ensures { OnOk result (codes.new ≡ codes.old ++ map (λ b. modules.block_code names.now b) (steps_in form.now)) }
 {
     match form {
@@ -91,6 +95,7 @@ fn push_arm_blocks(
     arms: &[Arm],
 ) -> Result<(), NoMemory>
     requires shape { AllArmsAre names.now arms.now }
+    requires room { BlocksFit names.now (steps_of_arms arms.now) }
     ensures { OnOk result (codes.new ≡ codes.old ++ map (λ b. modules.block_code names.now b) (steps_of_arms arms.now)) }
 {
     for arm in arms {

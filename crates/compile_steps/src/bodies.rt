@@ -1,10 +1,12 @@
 //! The code of functions, of routine blocks and of main.
 
-ghost use Rattle.std.specs.Prelude.{◌≡◌, ◌+◌, ◌≤◌, ◌++◌, length, map, OnOk, IfOk};
+ghost use Rattle.std.specs.Prelude.{◌≡◌, ◌+◌, ◌≤◌, ◌++◌, [], length, map, OnOk, IfOk};
 ghost use Rattle.csl_tree.specs.declared.program.RoutineBlock.{out-RoutineBlock};
 ghost use Rattle.compiled_code.specs.Slots.{kind_of as kind_of_type};
 ghost use Rattle.compiled_code.specs.Modules as modules;
 ghost use Rattle.expression_code.specs.Lists.{statements_size, statements_code, StatementsAre};
+ghost use Rattle.expression_code.specs.Counts.{IsSmall};
+ghost use Rattle.compile_steps.specs.Writing.{BodyFits, BlockFits};
 
 use crate::statements::push_block;
 use bytecode::{Code, Gives, Instr, Ty};
@@ -49,7 +51,8 @@ fn body_code(
     scope: Scope,
     body: &[Stmt],
 ) -> Result<Items<Instr>, NoMemory>
-    requires { StatementsAre names.now body.now }
+    requires shape { StatementsAre names.now body.now }
+    requires room { BodyFits names.now body.now scope.slots scope.next }
     ensures { IfOk result (λ instrs. instrs ≡ statements_code names.now body.now scope.slots (modules.beginning scope.next) (modules.ends_at (statements_size names.now body.now scope.slots scope.next))) }
 {
     let mut w = Writer {
@@ -69,7 +72,8 @@ fn declare_params(
     locals: &mut Items<Ty>,
     params: &[Param],
 ) -> Result<(), NoMemory>
-    requires { scope.old.next ≡ length scope.old.slots }
+    requires numbered { scope.old.next ≡ length scope.old.slots }
+    requires room { IsSmall (scope.old.next + length params.now) }
     ensures slots { OnOk result (scope.new.slots ≡ modules.with_params scope.old.slots params.now) }
     ensures next { OnOk result (scope.new.next ≡ scope.old.next + length params.now) }
     ensures locals { OnOk result (locals.new ≡ locals.old ++ map (λ q. kind_of_type q.ty) params.now) }
@@ -86,6 +90,7 @@ fn declare_params(
 pub fn function_code(alloc: Global, names: &Names, f: &Function) -> Result<Code, NoMemory>
     requires shape { StatementsAre names.now f.now.body }
     requires few { length f.now.params ≤ 8 }
+    requires room { BodyFits names.now f.now.body (modules.with_params [] f.now.params) (length f.now.params) }
     ensures { IfOk result (λ code. code ≡ modules.function_code names.now f.now) }
 {
     let mut scope = Scope::new(alloc);
@@ -104,7 +109,8 @@ pub fn function_code(alloc: Global, names: &Names, f: &Function) -> Result<Code,
 
 /// The code of a routine block. Its width and its number within the block are in its first two locals.
 pub fn block_code(alloc: Global, names: &Names, block: &RoutineBlock) -> Result<Code, NoMemory>
-    requires { StatementsAre names.now (out-RoutineBlock block.now).body }
+    requires shape { StatementsAre names.now (out-RoutineBlock block.now).body }
+    requires room { BlockFits names.now block.now }
     ensures { IfOk result (λ code. code ≡ modules.block_code names.now block.now) }
 {
     let mut scope = Scope::new(alloc);
@@ -128,6 +134,7 @@ pub fn block_code(alloc: Global, names: &Names, block: &RoutineBlock) -> Result<
 pub fn main_code(alloc: Global, names: &Names, body: &[Stmt]) -> Result<Code, NoMemory>
     requires shape { StatementsAre names.now body.now }
     requires main { body.now ≡ names.now.main }
+    requires room { BodyFits names.now body.now [] 0 }
     ensures { IfOk result (λ code. code ≡ modules.main_code names.now) }
 {
     let mut locals = Items::new(alloc);

@@ -88,7 +88,8 @@ fn verified_module(alloc: Global, p: &Checked) -> Result<Verified, NoMemory>
 /// The module of an accepted program, which means what the program means: with each amount of fuel it prints the same lines, opens
 /// the same steps, each on the same memory and with the same answers of its routines, leaves the same memory after each of them and
 /// comes to the same end. On each memory of the program's words a routine of the module does what the program's does, and leaves the
-/// same fuel. Answers `NoMemory` where there is no memory for it, or where a code would have 2^32 instructions.
+/// same fuel. Answers `NoMemory` only where there is no memory for it: no code, list of
+/// locals, texts or blocks of an accepted program comes near 2^32 entries.
 pub fn compile(alloc: Global, p: &Checked) -> Result<Verified, NoMemory>
     ensures means { IfOk result (λ m. (fuel : ℕ) → machine_meaning m fuel ≡ meaning p.now fuel) }
     ensures steps { IfOk result (λ m. (fuel : ℕ) → steps_of (machine_main m fuel) ≡ steps_of (main p.now fuel)) }

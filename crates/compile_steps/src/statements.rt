@@ -2,10 +2,11 @@
 
 ghost use Rattle.std.specs.Prelude.{◌≡◌, ◌+◌, ◌++◌, length, IfOk, OnOk};
 ghost use Rattle.compiled_code.specs.Shape.{FormIs};
-ghost use Rattle.compiled_code.specs.Sizes.{item_texts};
+ghost use Rattle.compiled_code.specs.Sizes.{size_of, place_size, call_size, returned_size, items_size, widths_size, item_texts};
 ghost use Rattle.compiled_code.specs.Statements as statements;
-ghost use Rattle.expression_code.specs.Lists.{StatementsAre, AllArmsAre, LastBlockIs};
-ghost use Rattle.compile_steps.specs.Writing.{WroteCode, WroteDeclare, WroteTest, WrotePrint, WroteStep, WroteForm, WroteAll, WroteBlock, WroteArms, WroteLast, WroteWhile};
+ghost use Rattle.expression_code.specs.Lists.{adding_size, StatementsAre, AllArmsAre, LastBlockIs};
+ghost use Rattle.expression_code.specs.Counts.{IsSmall};
+ghost use Rattle.compile_steps.specs.Writing.{FormFits, AllFit, ArmsFit, LastFits, WhileFits, TestFits, WroteCode, WroteDeclare, WroteTest, WrotePrint, WroteStep, WroteForm, WroteAll, WroteBlock, WroteArms, WroteLast, WroteWhile};
 ghost use Rattle.std.specs.Option.{option_copied};
 
 use bytecode::Instr;
@@ -16,12 +17,13 @@ use expression_code::names::Names;
 use expression_code::scope::kind_of;
 use expression_code::sizes::{loop_sizes, size_here};
 use expression_code::values::{printed_items, push_call, push_items, push_value, push_widths};
-use expression_code::writer::{Writer, length_of, sum};
+use expression_code::writer::{Writer, length_of};
 use sqlite_items::Items;
 use std::alloc::Global;
 
 /// Writes the code of an assignment.
 fn push_set(w: &mut Writer, names: &Names, place: &Place, value: &Expr) -> Result<(), NoMemory>
+    requires { IsSmall (length w.old.instrs + (place_size place.now + size_of value.now)) }
     ensures { OnOk result (WroteCode (statements.set_code names.now w.old.scope.slots place.now value.now (length w.old.instrs)) w.old w.new) }
 {
     match &place.index {
@@ -46,6 +48,7 @@ fn push_set(w: &mut Writer, names: &Names, place: &Place, value: &Expr) -> Resul
 
 /// Writes the code of an adding.
 fn push_add(w: &mut Writer, names: &Names, place: &Place, value: &Expr) -> Result<(), NoMemory>
+    requires { IsSmall (length w.old.instrs + adding_size w.old.scope.slots place.now value.now) }
     ensures { OnOk result (WroteCode (statements.add_to_code names.now w.old.scope.slots place.now value.now (length w.old.instrs)) w.old w.new) }
 {
     match &place.index {
@@ -77,6 +80,7 @@ fn push_add(w: &mut Writer, names: &Names, place: &Place, value: &Expr) -> Resul
 
 /// Writes the code of a `return`.
 fn push_return(w: &mut Writer, names: &Names, given: &Option<Expr>) -> Result<(), NoMemory>
+    requires { IsSmall (length w.old.instrs + returned_size given.now) }
     ensures { OnOk result (WroteCode (statements.return_code names.now w.old.scope.slots given.now (length w.old.instrs)) w.old w.new) }
 {
     if let Some(e) = given {
@@ -88,36 +92,41 @@ fn push_return(w: &mut Writer, names: &Names, given: &Option<Expr>) -> Result<()
 
 /// Writes the code of a line.
 fn push_print(w: &mut Writer, alloc: Global, names: &Names, items: &[Item]) -> Result<(), NoMemory>
+    requires values { IsSmall (length w.old.instrs + items_size items.now) }
+    requires texts { IsSmall (w.old.text + length (item_texts items.now)) }
     ensures { OnOk result (WrotePrint names.now items.now w.old w.new) }
 {
     push_items(&mut w.instrs, names, &w.scope, items)?;
     let printed = printed_items(alloc, names, &w.scope, items, w.text)?;
     w.instrs.push(Instr::Print(printed))?;
-    w.text = sum(w.text, texts_among(items)?)?;
+    w.text += texts_among(items);
     Ok(())
 }
 
 /// How many texts there are among the items of a line.
-fn texts_among(items: &[Item]) -> Result<u32, NoMemory>
-    ensures { IfOk result (λ n. n ≡ length (item_texts items.now)) }
+fn texts_among(items: &[Item]) -> u32
+    requires { IsSmall (length (item_texts items.now)) }
+    ensures { result ≡ length (item_texts items.now) }
 {
     let mut count = 0u32;
     for item in items {
         if let Item::Text(_) = item {
-            count = sum(count, 1)?;
+            count += 1;
         }
     }
-    Ok(count)
+    count
 }
 
 /// Writes the code of a step.
 fn push_step(w: &mut Writer, names: &Names, blocks: &[RoutineBlock]) -> Result<(), NoMemory>
+    requires widths { IsSmall (length w.old.instrs + widths_size blocks.now) }
+    requires blocks { IsSmall (w.old.block + length blocks.now) }
     ensures { OnOk result (WroteStep names.now blocks.now w.old w.new) }
 {
     push_widths(&mut w.instrs, names, &w.scope, blocks)?;
-    let count = length_of(blocks.len())?;
+    let count = length_of(blocks.len());
     w.instrs.push(Instr::Par(w.block, count))?;
-    w.block = sum(w.block, count)?;
+    w.block += count;
     Ok(())
 }
 
@@ -129,6 +138,8 @@ fn push_declare(
     name: &Text,
     value: &Expr,
 ) -> Result<(), NoMemory>
+    requires value { IsSmall (length w.old.instrs + size_of value.now) }
+    requires slot { IsSmall (w.old.scope.next + 1) }
     ensures { OnOk result (WroteDeclare names.now ty name.now value.now w.old w.new) }
 {
     push_value(&mut w.instrs, names, &w.scope, value)?;
@@ -138,6 +149,7 @@ fn push_declare(
 
 /// Writes the code of a call whose result nobody takes.
 fn push_call_statement(w: &mut Writer, names: &Names, call: &Call) -> Result<(), NoMemory>
+    requires { IsSmall (length w.old.instrs + call_size call.now) }
     ensures { OnOk result (WroteCode (statements.statement_code names.now w.old.scope.slots call.now (length w.old.instrs)) w.old w.new) }
 {
     push_call(&mut w.instrs, names, &w.scope, call)?;
@@ -164,14 +176,15 @@ fn push_test(
     body: &[Stmt],
     next: Option<&Form>,
 ) -> Result<Around, NoMemory>
+    requires { TestFits names.now test.now body.now (option_copied next) w.old }
     ensures { IfOk result (λ around. WroteTest names.now test.now body.now (option_copied next.entry) around w.old w.new) }
 {
-    let test_at = length_of(w.instrs.len())?;
+    let test_at = length_of(w.instrs.len());
     push_value(&mut w.instrs, names, &w.scope, test)?;
     let (inside, more) = loop_sizes(names, &mut w.scope, body, next)?;
-    let begin = sum(length_of(w.instrs.len())?, 1)?;
-    let behind = sum(begin, inside)?;
-    let out = sum(sum(behind, more)?, 1)?;
+    let begin = length_of(w.instrs.len()) + 1;
+    let behind = begin + inside;
+    let out = behind + more + 1;
     w.instrs.push(Instr::Branch(out))?;
     Ok(Around {
         test: test_at,
@@ -191,6 +204,7 @@ pub fn push_form(
     on_continue: u32,
 ) -> Result<(), NoMemory>
     requires shape { FormIs names.now form.now }
+    requires room { FormFits names.now form.now w.old }
     ensures { OnOk result (WroteForm names.now form.now (record { on_break = on_break; on_continue = on_continue }) w.old w.new) }
 {
     match form {
@@ -199,7 +213,7 @@ pub fn push_form(
         Form::AddTo { place, value } => push_add(w, names, place, value),
         Form::If { arms, last } => {
             let size = size_here(names, &mut w.scope, form)?;
-            let end = sum(length_of(w.instrs.len())?, size)?;
+            let end = length_of(w.instrs.len()) + size;
             push_arms(w, alloc, names, arms.as_slice(), on_break, on_continue, end)?;
             push_last(w, alloc, names, last, on_break, on_continue)
         }
@@ -251,6 +265,7 @@ fn push_while(
     test: &Expr,
 ) -> Result<(), NoMemory>
     requires shape { StatementsAre names.now body.now }
+    requires room { WhileFits names.now test.now body.now w.old }
     ensures { OnOk result (WroteWhile names.now test.now body.now w.old w.new) }
 {
     let at = push_test(w, names, test, body, None)?;
@@ -270,6 +285,7 @@ pub fn push_block(
     on_continue: u32,
 ) -> Result<(), NoMemory>
     requires shape { StatementsAre names.now body.now }
+    requires room { AllFit names.now body.now w.old }
     ensures { OnOk result (WroteBlock names.now body.now (record { on_break = on_break; on_continue = on_continue }) w.old w.new) }
 {
     let mark = w.scope.mark();
@@ -289,6 +305,7 @@ fn push_all(
     on_continue: u32,
 ) -> Result<(), NoMemory>
     requires shape { StatementsAre names.now body.now }
+    requires room { AllFit names.now body.now w.old }
     ensures { OnOk result (WroteAll names.now body.now (record { on_break = on_break; on_continue = on_continue }) w.old w.new) }
 {
     for s in body {
@@ -309,6 +326,7 @@ fn push_arms(
     end: u32,
 ) -> Result<(), NoMemory>
     requires shape { AllArmsAre names.now arms.now }
+    requires room { ArmsFit names.now arms.now w.old }
     ensures { OnOk result (WroteArms names.now arms.now (record { on_break = on_break; on_continue = on_continue }) end w.old w.new) }
 {
     for arm in arms {
@@ -330,6 +348,7 @@ fn push_last(
     on_continue: u32,
 ) -> Result<(), NoMemory>
     requires shape { LastBlockIs names.now last.now }
+    requires room { LastFits names.now last.now w.old }
     ensures { OnOk result (WroteLast names.now last.now (record { on_break = on_break; on_continue = on_continue }) w.old w.new) }
 {
     match last {

@@ -4,6 +4,7 @@ ghost use Rattle.std.specs.Prelude.{◌≡◌, ◌+◌, ◌++◌, ◌∷◌, [],
 ghost use Rattle.std.specs.Ordering.{int_eq};
 ghost use Rattle.csl_meaning.specs.Layout.{words_in, first_words, first_memory};
 ghost use Rattle.compiled_code.specs.Modules.{tallies_from, initial_from};
+ghost use Rattle.expression_code.specs.Counts.{IsSmall};
 
 use cal_terms::{NoMemory, WordKind};
 use csl_tree::program::Shared;
@@ -18,14 +19,15 @@ fn push_tallies(
     first: u32,
     count: u32,
 ) -> Result<(), NoMemory>
-    requires { count ≡ words_in shared.now }
+    requires count { count ≡ words_in shared.now }
+    requires small { IsSmall (first + count) }
     ensures { OnOk result (tallies.new ≡ tallies.old ++ tallies_from first (first_words shared.now)) }
 {
     match shared.kind {
         WordKind::Ordinary => {}
         WordKind::Tally => {
             for i in 0..count {
-                tallies.push(sum(first, i)?)?;
+                tallies.push(sum(first, i))?;
             }
         }
     }
@@ -49,34 +51,36 @@ fn push_initial(
     first: u32,
     count: u32,
 ) -> Result<(), NoMemory>
-    requires { count ≡ words_in shared.now }
+    requires count { count ≡ words_in shared.now }
+    requires small { IsSmall (first + count) }
     ensures { OnOk result (initial.new ≡ initial.old ++ initial_from first (first_words shared.now)) }
 {
     for (i, value) in shared.values.as_slice().iter().enumerate() {
         if i >= count as usize {
             return Ok(());
         }
-        push_word(initial, sum(first, length_of(i)?)?, value.number)?;
+        push_word(initial, sum(first, length_of(i)), value.number)?;
     }
     Ok(())
 }
 
-/// Appends the tally words of all declarations, and their words that do not begin at 0. Answers how many words there are.
+/// Appends the tally words of all declarations, and their words that do not begin at 0. Answers how many words there are: fewer than 2^32.
 pub fn push_words(
     tallies: &mut Items<u32>,
     initial: &mut Items<(u32, i64)>,
     all: &[Shared],
 ) -> Result<u32, NoMemory>
+    requires { IsSmall (length (first_memory all.now)) }
     ensures tallies { OnOk result (tallies.new ≡ tallies.old ++ tallies_from 0 (first_memory all.now)) }
     ensures initial { OnOk result (initial.new ≡ initial.old ++ initial_from 0 (first_memory all.now)) }
     ensures count { IfOk result (λ n. n ≡ length (first_memory all.now)) }
 {
     let mut first = 0u32;
     for shared in all {
-        let count = items_in(&shared.size)?.unwrap_or(1);
+        let count = items_in(&shared.size).unwrap_or(1);
         push_tallies(tallies, shared, first, count)?;
         push_initial(initial, shared, first, count)?;
-        first = sum(first, count)?;
+        first = sum(first, count);
     }
     Ok(first)
 }

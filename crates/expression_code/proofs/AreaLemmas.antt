@@ -1,14 +1,17 @@
 -- What is kept under names: the words of shared names and the numbers of functions, as names are added.
-use Rattle.std.proofs.Common.{◌≡◌, ℕ, suc, ◌+◌, Bool, true, false, cond, if◌then◌else◌, List, [], ◌∷◌, drop, Option, Some, None, Bor, is_some, refl, sym, ap, ◌∙◌, arith}
+use Rattle.std.proofs.Common.{◌≡◌, ℕ, suc, ◌+◌, ◌≤◌, ◌<◌, length, get_or, Bool, true, false, cond, if◌then◌else◌, List, [], ◌∷◌, drop, Option, Some, None, Bor, is_some, refl, sym, ap, ◌∙◌, arith}
 use Rattle.std.specs.Prelude.{slice_get, unwrap_or}
 use Rattle.std.specs.Option.{option_or, option_copied}
 use Rattle.std.specs.Str.{bytes_eq}
 use Rattle.std.proofs.lemmas.Slice.Eq.{bytes_eq-Decides}
+use Rattle.cal_terms.proofs.Lists.{next_item}
 use Rattle.csl_tree.specs.declared.program.Function.{Function}
+use Rattle.csl_tree.specs.declared.program.Shared.{Shared}
 use Rattle.csl_meaning.specs.Effect.{function_named}
-use Rattle.csl_meaning.specs.Layout.{Text}
+use Rattle.csl_meaning.specs.Layout.{Text, word_count, words_in}
 use Rattle.compiled_code.specs.Sizes.{given_by}
 use Rattle.compiled_code.specs.Values.{function_number}
+use Rattle.expression_code.specs.Counts.{words_in_all}
 
 -- a name under which something is kept keeps it
 pub kept : {X : Type 0} (f : Text → Option X) (name other : Text) (x : X) → is_some (f name) ≡ true → f other ≡ option_or (f other) (if bytes_eq name other then Some x else None)
@@ -62,3 +65,21 @@ given_at (f ∷ functions) name = by (bytes_eq f.name.text name) (given_at funct
         → given_by (slice_get (f ∷ functions) (if b then 0 else suc (function_number functions name))) ≡ given_by (if b then Some f else function_named functions name)
     by true h = refl
     by false h = h
+
+-- no more functions stand before one than there are
+pub number_within : (functions : List Function) (name : Text) → function_number functions name ≤ length functions
+number_within [] name = omega arith
+number_within (f ∷ functions) name = by (bytes_eq f.name.text name) (number_within functions name)
+  where
+    by : (b : Bool) → function_number functions name ≤ length functions → (if b then 0 else suc (function_number functions name)) ≤ suc (length functions)
+    by true h = omega arith
+    by false h = omega (arith, h)
+
+-- a scalar takes one word
+pub count_of : (size : Option ℕ) → unwrap_or size 1 ≡ word_count size
+count_of None = refl
+count_of (Some n) = refl
+
+-- the words of the next declaration stand before those of the rest
+pub words_next : (shared : List Shared) (i : ℕ) (s : Shared) → i < length shared → s ≡ get_or shared i s → words_in_all (drop i shared) ≡ words_in s + words_in_all (drop (i + 1) shared)
+words_next shared i s within at = ap words_in_all (next_item shared i s within at)

@@ -12,6 +12,7 @@ use Rattle.csl_tree.specs.declared.program.Form.TheBlock.{shape-the_row-Stmt-1, 
 use Rattle.compiled_code.specs.Slots.{Slots}
 use Rattle.compiled_code.specs.Sizes.{size_of, widths_size, kinds_in}
 use Rattle.compiled_code.specs.Places.{slots_after, form_size, row_size, arms_size}
+use Rattle.expression_code.specs.Scopes.{Scoped}
 use Rattle.expression_code.specs.Lists.{kinds_of, kinds_of_arms, statements_size, all_arms_size, last_block_size, for_loop_size}
 use Rattle.expression_code.proofs.RowLemmas.{append_none, kinds_row, kinds_arms, blocks_is}
 
@@ -68,3 +69,30 @@ module _ (p : Program) where
 
   pub size_par : (f : Form) (blocks : List RoutineBlock) (slots : Slots) (slot : ℕ) → f ≡ form.Par blocks → form_size p f slots slot ≡ widths_size blocks + 1
   size_par f blocks slots slot e = ap (λ g. form_size p g slots slot) e ∙ ap (λ b. widths_size b + 1) (blocks_is blocks)
+
+  -- the parts of a `for`, each in the scope in which it is measured
+  pub for_parts : (f : Form) (first first' : Stmt) (test : Expr) (next next' : Stmt) (body body' : List Stmt) (slots : Slots) (slot : ℕ) (one two : Scoped) → f ≡ form.For first test next body
+      → first' ≡ first → next' ≡ next → body' ≡ body → one.slots ≡ slots_after slots slot first'.form → one.next ≡ slot + length (kinds_in first'.form) → two.slots ≡ one.slots → two.next ≡ one.next + length (kinds_of body')
+      → form_size p f slots slot ≡ form_size p first'.form slots slot + size_of test + 1 + statements_size p body' one.slots one.next + form_size p next'.form two.slots two.next + 1
+  for_parts f first first' test next next' body body' slots slot one two e first_is next_is body_is slots_is next_slot slots_stay next_more =
+      let begins : one.next ≡ slot + length (kinds_in first.form) = next_slot ∙ ap (λ (s : Stmt). slot + length (kinds_in s.form)) first_is in
+      let sees : one.slots ≡ slots_after slots slot first.form = slots_is ∙ ap (λ (s : Stmt). slots_after slots slot s.form) first_is in
+      let goes_on : two.next ≡ (slot + length (kinds_in first.form)) + length (kinds_of body) = next_more ∙ (λ j. begins j + length (kinds_of (body_is j))) in
+      let before = ap (λ (s : Stmt). form_size p s.form slots slot) first_is in
+      let inside : statements_size p body' one.slots one.next ≡ statements_size p body (slots_after slots slot first.form) (slot + length (kinds_in first.form)) =
+      (λ j. statements_size p (body_is j) (sees j) (begins j)) in
+      let step : form_size p next'.form two.slots two.next ≡ form_size p next.form (slots_after slots slot first.form) ((slot + length (kinds_in first.form)) + length (kinds_of body)) =
+      (λ j. form_size p (next_is j).form ((slots_stay ∙ sees) j) (goes_on j)) in
+      let whole = size_for f first test next body slots slot e in
+      omega (arith, whole, before, inside, step)
+
+  -- the parts of an `if` with a last block, each in the scope in which it is measured
+  pub if_parts : (f : Form) (arms arms' : List Arm) (last : Option (List Stmt)) (body body' : List Stmt) (slots : Slots) (slot : ℕ) (one : Scoped) → f ≡ form.If arms last → last ≡ Some body
+      → arms' ≡ arms → body' ≡ body → one.slots ≡ slots → one.next ≡ slot + length (kinds_of_arms arms')
+      → form_size p f slots slot ≡ all_arms_size p arms' slots slot + statements_size p body' one.slots one.next
+  if_parts f arms arms' last body body' slots slot one e some arms_is body_is slots_stay next_more =
+      let all = ap (λ (a : List Arm). all_arms_size p a slots slot) arms_is in
+      let begins : one.next ≡ slot + length (kinds_of_arms arms) = next_more ∙ ap (λ (a : List Arm). slot + length (kinds_of_arms a)) arms_is in
+      let inside : statements_size p body' one.slots one.next ≡ statements_size p body slots (slot + length (kinds_of_arms arms)) = (λ j. statements_size p (body_is j) (slots_stay j) (begins j)) in
+      let whole = size_if_some f arms last body slots slot e some in
+      omega (arith, whole, all, inside)

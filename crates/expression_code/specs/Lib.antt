@@ -1,3 +1,4 @@
 pub mod Scopes
 pub mod Lists
 pub mod Areas
+pub mod Counts

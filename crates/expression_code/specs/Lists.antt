@@ -98,10 +98,15 @@ module _ (p : Program) where
   statements_size [] slots slot = 0
   statements_size (s ∷ rest) slots slot = form_size p s.form slots slot + statements_size rest (slots_after slots slot s.form) (slot + length (kinds_in s.form))
 
+  -- an arm of an `if`
+  abbrev pub one_arm_size : Arm → Slots → ℕ → ℕ
+  one_arm_size a slots slot = size_of (out-Arm a).test + 1 + statements_size (out-Arm a).body slots slot + 1
+
+  -- the arms of an `if`
   abbrev pub all_arms_size : List Arm → Slots → ℕ → ℕ
   all_arms_size [] slots slot = 0
   all_arms_size (a ∷ rest) slots slot =
-      size_of (out-Arm a).test + 1 + statements_size (out-Arm a).body slots slot + 1 + all_arms_size rest slots (slot + length (kinds_of (out-Arm a).body))
+      one_arm_size a slots slot + all_arms_size rest slots (slot + length (kinds_of (out-Arm a).body))
 
   abbrev pub last_block_size : Option (List Stmt) → Slots → ℕ → ℕ
   last_block_size None slots slot = 0

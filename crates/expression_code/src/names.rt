@@ -7,6 +7,7 @@ ghost use Rattle.type_check.specs.Places.{place_among};
 ghost use Rattle.csl_meaning.specs.Layout as layout;
 ghost use Rattle.compiled_code.specs.Values.{function_number};
 ghost use Rattle.expression_code.specs.Areas.{area_among, number_among};
+ghost use Rattle.expression_code.specs.Counts.{IsSmall, words_in_all};
 
 use crate::writer::{length_of, sum};
 use cal_terms::NoMemory;
@@ -26,8 +27,9 @@ pub struct Names<'a> {
 }
 
 impl<'a> Model for Names<'a> {
-    ghost use Rattle.std.specs.Prelude.{◌≡◌, List, ℕ};
+    ghost use Rattle.std.specs.Prelude.{◌≡◌, List, ℕ, length};
     ghost use Rattle.expression_code.specs.Areas.{area_among, number_among};
+    ghost use Rattle.expression_code.specs.Counts.{IsSmall};
     ghost use Rattle.csl_tree.specs.declared.program.Program.{Program};
     ghost use Rattle.csl_tree.specs.contracts.program.Program as tree;
     ghost use Rattle.csl_meaning.specs.Layout.{area_of};
@@ -42,6 +44,7 @@ impl<'a> Model for Names<'a> {
     ghost invariant = { λ n. record {
       areas : (name : List ℕ) → area_among n.areas name ≡ area_of n.program.now.shared name;
       functions : (name : List ℕ) → number_among n.functions n.program.now.functions name ≡ function_number n.program.now.functions name;
+      few : IsSmall (length n.program.now.functions);
     } };
 }
 
@@ -52,9 +55,12 @@ impl<'a> Names<'a> {
     ghost use Rattle.csl_meaning.specs.Effect.{function_named};
     ghost use Rattle.compiled_code.specs.Sizes.{given_by};
     ghost use Rattle.compiled_code.specs.Values.{function_number};
+    ghost use Rattle.expression_code.specs.Counts.{IsSmall, words_in_all};
 
-    /// The names of this program.
+    /// The names of this program, whose words and functions are fewer than 2^32.
     pub fn of(alloc: Global, program: &'a Program) -> Result<Names<'a>, NoMemory>
+        requires words { IsSmall (words_in_all program.now.shared) }
+        requires functions { IsSmall (length program.now.functions) }
         ensures { IfOk result (λ n. n ≡ program.now) }
     {
         let areas = areas_of(alloc, program.shared.as_slice())?;
@@ -88,7 +94,8 @@ impl<'a> Names<'a> {
 
     /// How many functions stand before the one with this name.
     fn place(&self, name: &Text) -> usize
-        ensures { result ≡ function_number self.now.functions name.now }
+        ensures number { result ≡ function_number self.now.functions name.now }
+        ensures few { IsSmall result }
     {
         match self.functions.get(name.as_slice()) {
             Some(place) => *place,
@@ -97,8 +104,8 @@ impl<'a> Names<'a> {
     }
 
     /// How many functions stand before the one with this name.
-    pub fn function_number(&self, name: &Text) -> Result<u32, NoMemory>
-        ensures { IfOk result (λ n. n ≡ function_number self.now.functions name.now) }
+    pub fn function_number(&self, name: &Text) -> u32
+        ensures { result ≡ function_number self.now.functions name.now }
     {
         length_of(self.place(name))
     }
@@ -116,14 +123,15 @@ impl<'a> Names<'a> {
 
 /// Where the words of each shared name lie.
 fn areas_of(alloc: Global, shared: &[Shared]) -> Result<BTreeMap<Vec<u8>, Area>, NoMemory>
+    requires { IsSmall (words_in_all shared.now) }
     ensures { IfOk result (λ areas. (name : List ℕ) → area_among areas name ≡ layout.area_of shared.now name) }
 {
     let mut areas: BTreeMap<Vec<u8>, Area> = BTreeMap::new(alloc);
     let mut first = 0u32;
     for s in shared {
-        let items = items_in(&s.size)?;
+        let items = items_in(&s.size);
         add_area(alloc, &mut areas, &s.name.text, Area { first, items })?;
-        first = sum(first, items.unwrap_or(1))?;
+        first = sum(first, items.unwrap_or(1));
     }
     Ok(areas)
 }
@@ -174,18 +182,20 @@ fn add_number(
 }
 
 /// How many words an array has.
-pub fn items_in(size: &Option<ArraySize>) -> Result<Option<u32>, NoMemory>
-    ensures { IfOk result (λ n. n ≡ layout.items_in size.now) }
+pub fn items_in(size: &Option<ArraySize>) -> Option<u32>
+    requires { IsSmall (layout.word_count (layout.items_in size.now)) }
+    ensures { result ≡ layout.items_in size.now }
 {
     match size {
-        None => Ok(None),
-        Some(size) => {
-            if size.number < 0 {
-                Ok(Some(0))
-            } else {
-                let n = u32::try_from(size.number).map_err(|_| NoMemory)?;
-                Ok(Some(n))
-            }
-        }
+        None => None,
+        Some(size) => Some(natural(size.number)),
     }
+}
+
+/// A number that is not negative, and else 0.
+fn natural(number: i64) -> u32
+    requires { IsSmall (layout.natural number) }
+    ensures { result ≡ layout.natural number }
+{
+    if number < 0 { 0 } else { number as u32 }
 }

@@ -69,6 +69,7 @@ impl Model for Scope {
 }
 
 impl Scope {
+    ghost use Rattle.expression_code.specs.Counts.{IsSmall};
     ghost use Rattle.std.specs.Prelude.{◌≡◌, ◌+◌, [], length, take, OnOk, OnErr};
     ghost use Rattle.std.specs.Option.{option_copied};
     ghost use Rattle.compiled_code.specs.Slots.{slot_of, with_slot, kind_of};
@@ -105,13 +106,13 @@ impl Scope {
 
     /// One more local, in the next slot.
     pub fn declare(&mut self, name: &Text, kind: Ty) -> Result<(), NoMemory>
+        requires { IsSmall (self.old.next + 1) }
         ensures { OnOk result (self.new ≡ record { slots = with_slot self.old.slots name.now self.old.next kind; next = self.old.next + 1 }) }
     {
         let name = Text::from_slice(self.alloc, name.as_slice())?;
         let number = self.next;
-        let next = number.checked_add(1).ok_or(NoMemory)?;
         self.slots.push(Slot { name, number, kind })?;
-        self.next = next;
+        self.next = number + 1;
         Ok(())
     }
 

@@ -1,14 +1,15 @@
 //! How many instructions the code of a part takes. It is known before the code is written, since jumps lead behind it.
 
-ghost use Rattle.std.specs.Prelude.{◌≡◌, ◌+◌, IfOk, OnOk, length};
+ghost use Rattle.std.specs.Prelude.{◌≡◌, ◌+◌, ◌≤◌, IfOk, OnOk, length};
+ghost use Rattle.csl_tree.specs.declared.program.Arm.{out-Arm};
 ghost use Rattle.compiled_code.specs.Sizes as sizes;
 ghost use Rattle.std.specs.Option.{option_copied};
 ghost use Rattle.compiled_code.specs.Places as places;
-ghost use Rattle.expression_code.specs.Lists.{adding_size, sizes_of, statements_size, all_arms_size, slots_after_all, kinds_of, kinds_of_arms, step_size};
+ghost use Rattle.expression_code.specs.Lists.{adding_size, sizes_of, statements_size, all_arms_size, slots_after_all, kinds_of, kinds_of_arms, one_arm_size, step_size};
+ghost use Rattle.expression_code.specs.Counts.{IsSmall};
 
 use crate::names::Names;
 use crate::scope::{Scope, kind_of};
-use crate::writer::sum;
 use cal_terms::NoMemory;
 use csl_tree::program::{
     Arm, BinaryOp, Call, Expr, Form, Gives, Item, Node, Place, RoutineBlock, Stmt,
@@ -25,79 +26,83 @@ fn operator_size(op: BinaryOp) -> u32
 
 /// The instructions of an expression.
 #[cycle(value)]
-pub fn value_size(e: &Expr) -> Result<u32, NoMemory>
-    ensures { IfOk result (λ n. n ≡ sizes.size_of e.now) }
+pub fn value_size(e: &Expr) -> u32
+    requires { IsSmall (sizes.size_of e.now) }
+    ensures { result ≡ sizes.size_of e.now }
 {
     match &e.node {
-        Node::Number(_) | Node::Truth(_) => Ok(1),
-        Node::Read(place) => sum(place_size(place)?, 1),
+        Node::Number(_) | Node::Truth(_) => 1,
+        Node::Read(place) => place_size(place) + 1,
         Node::CallOf(call) => call_size(call),
-        Node::Unary(_, a) => sum(value_size(a.get())?, 1),
-        Node::Binary(op, a, b) => {
-            let both = sum(value_size(a.get())?, value_size(b.get())?)?;
-            sum(both, operator_size(*op))
-        }
+        Node::Unary(_, a) => value_size(a.get()) + 1,
+        Node::Binary(op, a, b) => value_size(a.get()) + value_size(b.get()) + operator_size(*op),
         Node::Paren(a) => value_size(a.get()),
     }
 }
 
 /// The instructions of an index, if there is one.
 #[cycle(value)]
-fn place_size(place: &Place) -> Result<u32, NoMemory>
-    ensures { IfOk result (λ n. n ≡ sizes.place_size place.now) }
+fn place_size(place: &Place) -> u32
+    requires { IsSmall (sizes.place_size place.now) }
+    ensures { result ≡ sizes.place_size place.now }
 {
     match &place.index {
-        None => Ok(0),
+        None => 0,
         Some(i) => value_size(i.get()),
     }
 }
 
 /// The instructions of a call with its arguments.
 #[cycle(value)]
-fn call_size(call: &Call) -> Result<u32, NoMemory>
-    ensures { IfOk result (λ n. n ≡ sizes.call_size call.now) }
+fn call_size(call: &Call) -> u32
+    requires { IsSmall (sizes.call_size call.now) }
+    ensures { result ≡ sizes.call_size call.now }
 {
-    sum(values_size(call.args.as_slice())?, 1)
+    values_size(call.args.as_slice()) + 1
 }
 
 #[cycle(value)]
-fn values_size(args: &[Expr]) -> Result<u32, NoMemory>
-    ensures { IfOk result (λ n. n ≡ sizes_of args.now) }
+fn values_size(args: &[Expr]) -> u32
+    requires { IsSmall (sizes_of args.now) }
+    ensures { result ≡ sizes_of args.now }
 {
     let mut size = 0u32;
     for e in args {
-        size = sum(size, value_size(e)?)?;
+        size += value_size(e);
     }
-    Ok(size)
+    size
 }
 
-fn items_size(items: &[Item]) -> Result<u32, NoMemory>
-    ensures { IfOk result (λ n. n ≡ sizes.items_size items.now) }
+fn items_size(items: &[Item]) -> u32
+    requires { IsSmall (sizes.items_size items.now) }
+    ensures { result ≡ sizes.items_size items.now }
 {
     let mut size = 0u32;
     for item in items {
         if let Item::Value(e) = item {
-            size = sum(size, value_size(e)?)?;
+            size += value_size(e);
         }
     }
-    Ok(size)
+    size
 }
 
-fn widths_size(blocks: &[RoutineBlock]) -> Result<u32, NoMemory>
-    ensures { IfOk result (λ n. n ≡ sizes.widths_size blocks.now) }
+fn widths_size(blocks: &[RoutineBlock]) -> u32
+    requires { IsSmall (sizes.widths_size blocks.now) }
+    ensures { result ≡ sizes.widths_size blocks.now }
 {
     let mut size = 0u32;
     for block in blocks {
-        size = sum(size, value_size(&block.width)?)?;
+        size += value_size(&block.width);
     }
-    Ok(size)
+    size
 }
 
-fn returned_size(given: &Option<Expr>) -> Result<u32, NoMemory>
-    ensures { IfOk result (λ n. n ≡ sizes.returned_size given.now) }
+fn returned_size(given: &Option<Expr>) -> u32
+    requires { IsSmall (sizes.returned_size given.now) }
+    ensures { result ≡ sizes.returned_size given.now }
 {
     match given {
-        None => Ok(0),
+        None => 0,
         Some(e) => value_size(e),
     }
 }
@@ -112,54 +117,48 @@ fn drop_size(gives: Gives) -> u32
 }
 
 /// An adding: three instructions for a local without an index, and one behind the index for any other place.
-fn add_to_size(scope: &Scope, place: &Place, value: &Expr) -> Result<u32, NoMemory>
-    ensures { IfOk result (λ n. n ≡ adding_size scope.now.slots place.now value.now) }
+fn add_to_size(scope: &Scope, place: &Place, value: &Expr) -> u32
+    requires { IsSmall (adding_size scope.now.slots place.now value.now) }
+    ensures { result ≡ adding_size scope.now.slots place.now value.now }
 {
     match &place.index {
         None => {
-            let size = value_size(value)?;
             if scope.find(&place.name.text).is_some() {
-                sum(size, 3)
+                value_size(value) + 3
             } else {
-                sum(size, 1)
+                value_size(value) + 1
             }
         }
-        Some(i) => {
-            let both = sum(value_size(i.get())?, value_size(value)?)?;
-            sum(both, 1)
-        }
+        Some(i) => value_size(i.get()) + value_size(value) + 1,
     }
 }
 
 /// The instructions of a statement. Its locals are declared in the scope.
 #[cycle(form)]
 pub fn form_size(names: &Names, scope: &mut Scope, form: &Form) -> Result<u32, NoMemory>
+    requires room { IsSmall (scope.old.next + places.form_size names.now form.now scope.old.slots scope.old.next) }
     ensures size { IfOk result (λ n. n ≡ places.form_size names.now form.now scope.old.slots scope.old.next) }
     ensures slots { OnOk result (scope.new.slots ≡ places.slots_after scope.old.slots scope.old.next form.now) }
     ensures next { OnOk result (scope.new.next ≡ scope.old.next + length (sizes.kinds_in form.now)) }
+    ensures few { OnOk result (scope.new.next ≤ scope.old.next + places.form_size names.now form.now scope.old.slots scope.old.next) }
 {
     match form {
         Form::Declare { ty, name, value } => {
-            let size = sum(value_size(value)?, 1)?;
             scope.declare(&name.text, kind_of(*ty))?;
-            Ok(size)
+            Ok(value_size(value) + 1)
         }
-        Form::Set { place, value } => {
-            let both = sum(place_size(place)?, value_size(value)?)?;
-            sum(both, 1)
-        }
-        Form::AddTo { place, value } => add_to_size(scope, place, value),
+        Form::Set { place, value } => Ok(place_size(place) + value_size(value) + 1),
+        Form::AddTo { place, value } => Ok(add_to_size(scope, place, value)),
         Form::If { arms, last } => {
             let size = arms_size(names, scope, arms.as_slice())?;
             match last {
                 None => Ok(size),
-                Some(body) => sum(size, block_size(names, scope, body.as_slice())?),
+                Some(body) => Ok(size + block_size(names, scope, body.as_slice())?),
             }
         }
         Form::While { test, body } => {
-            let size = sum(value_size(test)?, 1)?;
-            let size = sum(size, block_size(names, scope, body.as_slice())?)?;
-            sum(size, 1)
+            let inside = block_size(names, scope, body.as_slice())?;
+            Ok(value_size(test) + 1 + inside + 1)
         }
         Form::For {
             first,
@@ -169,33 +168,30 @@ pub fn form_size(names: &Names, scope: &mut Scope, form: &Form) -> Result<u32, N
         } => {
             // What is declared in front of the test is visible up to the end of the loop.
             let mark = scope.mark();
-            let size = form_size(names, scope, &first.get().form)?;
-            let size = sum(size, value_size(test)?)?;
-            let size = sum(size, 1)?;
-            let size = sum(size, block_size(names, scope, body.as_slice())?)?;
-            let size = sum(size, size_here(names, scope, &next.get().form)?)?;
+            let before = form_size(names, scope, &first.get().form)?;
+            let inside = block_size(names, scope, body.as_slice())?;
+            let step = size_here(names, scope, &next.get().form)?;
             scope.leave(mark);
-            sum(size, 1)
+            Ok(before + value_size(test) + 1 + inside + step + 1)
         }
         Form::Break | Form::Continue => Ok(1),
-        Form::Return(given) => sum(returned_size(given)?, 1),
-        Form::CallOf(call) => {
-            let size = call_size(call)?;
-            sum(size, drop_size(names.gives(&call.name.text)))
-        }
-        Form::Assert(e) => sum(value_size(e)?, 1),
+        Form::Return(given) => Ok(returned_size(given) + 1),
+        Form::CallOf(call) => Ok(call_size(call) + drop_size(names.gives(&call.name.text))),
+        Form::Assert(e) => Ok(value_size(e) + 1),
         Form::Block(body) => block_size(names, scope, body.as_slice()),
-        Form::Print(items) => sum(items_size(items.as_slice())?, 1),
-        Form::Par(blocks) => sum(widths_size(blocks.as_slice())?, 1),
+        Form::Print(items) => Ok(items_size(items.as_slice()) + 1),
+        Form::Par(blocks) => Ok(widths_size(blocks.as_slice()) + 1),
     }
 }
 
 /// The instructions of the statements of a block, whose locals are not visible behind it.
 #[cycle(form)]
 pub fn block_size(names: &Names, scope: &mut Scope, body: &[Stmt]) -> Result<u32, NoMemory>
+    requires room { IsSmall (scope.old.next + statements_size names.now body.now scope.old.slots scope.old.next) }
     ensures size { IfOk result (λ n. n ≡ statements_size names.now body.now scope.old.slots scope.old.next) }
     ensures slots { OnOk result (scope.new.slots ≡ scope.old.slots) }
     ensures next { OnOk result (scope.new.next ≡ scope.old.next + length (kinds_of body.now)) }
+    ensures few { OnOk result (scope.new.next ≤ scope.old.next + statements_size names.now body.now scope.old.slots scope.old.next) }
 {
     let mark = scope.mark();
     let size = all_size(names, scope, body)?;
@@ -205,30 +201,44 @@ pub fn block_size(names: &Names, scope: &mut Scope, body: &[Stmt]) -> Result<u32
 
 #[cycle(form)]
 fn all_size(names: &Names, scope: &mut Scope, body: &[Stmt]) -> Result<u32, NoMemory>
+    requires room { IsSmall (scope.old.next + statements_size names.now body.now scope.old.slots scope.old.next) }
     ensures size { IfOk result (λ n. n ≡ statements_size names.now body.now scope.old.slots scope.old.next) }
     ensures slots { OnOk result (scope.new.slots ≡ slots_after_all scope.old.slots scope.old.next body.now) }
     ensures next { OnOk result (scope.new.next ≡ scope.old.next + length (kinds_of body.now)) }
+    ensures few { OnOk result (scope.new.next ≤ scope.old.next + statements_size names.now body.now scope.old.slots scope.old.next) }
 {
     let mut size = 0u32;
     for s in body {
-        size = sum(size, form_size(names, scope, &s.form)?)?;
+        size += form_size(names, scope, &s.form)?;
     }
     Ok(size)
 }
 
-/// The instructions of the arms of an `if`: each has a test, a branch, a block and a jump.
+/// The instructions of an arm of an `if`: a test, a branch, a block and a jump.
+#[cycle(form)]
+fn arm_size(names: &Names, scope: &mut Scope, arm: &Arm) -> Result<u32, NoMemory>
+    requires room { IsSmall (scope.old.next + one_arm_size names.now arm.now scope.old.slots scope.old.next) }
+    ensures size { IfOk result (λ n. n ≡ one_arm_size names.now arm.now scope.old.slots scope.old.next) }
+    ensures slots { OnOk result (scope.new.slots ≡ scope.old.slots) }
+    ensures next { OnOk result (scope.new.next ≡ scope.old.next + length (kinds_of (out-Arm arm.now).body)) }
+    ensures few { OnOk result (scope.new.next ≤ scope.old.next + one_arm_size names.now arm.now scope.old.slots scope.old.next) }
+{
+    let inside = block_size(names, scope, arm.body.as_slice())?;
+    Ok(value_size(&arm.test) + 1 + inside + 1)
+}
+
+/// The instructions of the arms of an `if`.
 #[cycle(form)]
 fn arms_size(names: &Names, scope: &mut Scope, arms: &[Arm]) -> Result<u32, NoMemory>
+    requires room { IsSmall (scope.old.next + all_arms_size names.now arms.now scope.old.slots scope.old.next) }
     ensures size { IfOk result (λ n. n ≡ all_arms_size names.now arms.now scope.old.slots scope.old.next) }
     ensures slots { OnOk result (scope.new.slots ≡ scope.old.slots) }
     ensures next { OnOk result (scope.new.next ≡ scope.old.next + length (kinds_of_arms arms.now)) }
+    ensures few { OnOk result (scope.new.next ≤ scope.old.next + all_arms_size names.now arms.now scope.old.slots scope.old.next) }
 {
     let mut size = 0u32;
     for arm in arms {
-        let one = sum(value_size(&arm.test)?, 1)?;
-        let one = sum(one, block_size(names, scope, arm.body.as_slice())?)?;
-        let one = sum(one, 1)?;
-        size = sum(size, one)?;
+        size += arm_size(names, scope, arm)?;
     }
     Ok(size)
 }
@@ -236,6 +246,7 @@ fn arms_size(names: &Names, scope: &mut Scope, arms: &[Arm]) -> Result<u32, NoMe
 /// The instructions of a statement that stands here, where the scope stays as it is.
 #[cycle(form)]
 pub fn size_here(names: &Names, scope: &mut Scope, form: &Form) -> Result<u32, NoMemory>
+    requires room { IsSmall (scope.old.next + places.form_size names.now form.now scope.old.slots scope.old.next) }
     ensures size { IfOk result (λ n. n ≡ places.form_size names.now form.now scope.old.slots scope.old.next) }
     ensures same { OnOk result (scope.new ≡ scope.old) }
 {
@@ -253,6 +264,8 @@ pub fn loop_sizes(
     body: &[Stmt],
     next: Option<&Form>,
 ) -> Result<(u32, u32), NoMemory>
+    requires room { IsSmall (scope.old.next + statements_size names.now body.now scope.old.slots scope.old.next
+        + step_size names.now (option_copied next) scope.old.slots (scope.old.next + length (kinds_of body.now))) }
     ensures body { IfOk result (λ n. n.0 ≡ statements_size names.now body.now scope.old.slots scope.old.next) }
     ensures next { IfOk result (λ n. n.1 ≡ step_size names.now (option_copied next.entry) scope.old.slots (scope.old.next + length (kinds_of body.now))) }
     ensures same { OnOk result (scope.new ≡ scope.old) }

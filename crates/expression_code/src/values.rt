@@ -7,12 +7,13 @@ ghost use Rattle.csl_meaning.specs.Value.{declared};
 ghost use Rattle.compiled_code.specs.Slots.{slot_of};
 ghost use Rattle.compiled_code.specs.Values as values;
 ghost use Rattle.compiled_code.specs.Statements as statements;
-ghost use Rattle.compiled_code.specs.Sizes.{size_of};
-ghost use Rattle.expression_code.specs.Lists.{codes_of, right_code};
+ghost use Rattle.compiled_code.specs.Sizes.{operator_size, size_of, place_size, call_size, items_size, widths_size, item_texts};
+ghost use Rattle.expression_code.specs.Lists.{codes_of, right_code, sizes_of};
+ghost use Rattle.expression_code.specs.Counts.{IsSmall};
 
 use crate::names::Names;
 use crate::scope::Scope;
-use crate::writer::{length_of, sum};
+use crate::writer::length_of;
 use bytecode::{Instr, PrintItem, Ty};
 use cal_terms::NoMemory;
 use csl_meaning::Area;
@@ -81,6 +82,7 @@ pub fn push_value(
     scope: &Scope,
     e: &Expr,
 ) -> Result<(), NoMemory>
+    requires { IsSmall (length instrs.old + size_of e.now) }
     ensures { OnOk result (instrs.new ≡ instrs.old ++ values.code_of names.now scope.now.slots e.now (length instrs.old)) }
 {
     match &e.node {
@@ -116,6 +118,7 @@ fn push_right(
     op: BinaryOp,
     b: &Expr,
 ) -> Result<(), NoMemory>
+    requires { IsSmall (length instrs.old + size_of b.now + operator_size op) }
     ensures { OnOk result (instrs.new ≡ instrs.old ++ right_code op (length instrs.old) (size_of b.now) (λ at. values.code_of names.now scope.now.slots b.now at)) }
 {
     match op {
@@ -137,13 +140,14 @@ fn push_and(
     scope: &Scope,
     b: &Expr,
 ) -> Result<(), NoMemory>
+    requires { IsSmall (length instrs.old + size_of b.now + 3) }
     ensures { OnOk result (instrs.new ≡ instrs.old ++ right_code And (length instrs.old) (size_of b.now) (λ at. values.code_of names.now scope.now.slots b.now at)) }
 {
     let branch = instrs.len();
     instrs.push(Instr::Branch(0))?;
     push_value(instrs, names, scope, b)?;
-    let no = sum(length_of(instrs.len())?, 1)?;
-    let end = sum(no, 1)?;
+    let no = length_of(instrs.len()) + 1;
+    let end = no + 1;
     instrs.push(Instr::Jump(end))?;
     instrs.push(Instr::False)?;
     instrs.set(branch, Instr::Branch(no));
@@ -158,15 +162,16 @@ fn push_or(
     scope: &Scope,
     b: &Expr,
 ) -> Result<(), NoMemory>
+    requires { IsSmall (length instrs.old + size_of b.now + 3) }
     ensures { OnOk result (instrs.new ≡ instrs.old ++ right_code Or (length instrs.old) (size_of b.now) (λ at. values.code_of names.now scope.now.slots b.now at)) }
 {
-    let other = sum(length_of(instrs.len())?, 3)?;
+    let other = length_of(instrs.len()) + 3;
     instrs.push(Instr::Branch(other))?;
     instrs.push(Instr::True)?;
     let jump = instrs.len();
     instrs.push(Instr::Jump(0))?;
     push_value(instrs, names, scope, b)?;
-    let end = length_of(instrs.len())?;
+    let end = length_of(instrs.len());
     instrs.set(jump, Instr::Jump(end));
     Ok(())
 }
@@ -179,6 +184,7 @@ fn push_read(
     scope: &Scope,
     place: &Place,
 ) -> Result<(), NoMemory>
+    requires { IsSmall (length instrs.old + place_size place.now) }
     ensures { OnOk result (instrs.new ≡ instrs.old ++ values.read_code names.now scope.now.slots place.now (length instrs.old)) }
 {
     match &place.index {
@@ -202,10 +208,11 @@ pub fn push_call(
     scope: &Scope,
     call: &Call,
 ) -> Result<(), NoMemory>
+    requires { IsSmall (length instrs.old + call_size call.now) }
     ensures { OnOk result (instrs.new ≡ instrs.old ++ values.call_code names.now scope.now.slots call.now (length instrs.old)) }
 {
     push_values(instrs, names, scope, call.args.as_slice())?;
-    let number = names.function_number(&call.name.text)?;
+    let number = names.function_number(&call.name.text);
     instrs.push(Instr::Call(number))?;
     Ok(())
 }
@@ -218,6 +225,7 @@ fn push_values(
     scope: &Scope,
     args: &[Expr],
 ) -> Result<(), NoMemory>
+    requires { IsSmall (length instrs.old + sizes_of args.now) }
     ensures { OnOk result (instrs.new ≡ instrs.old ++ codes_of names.now scope.now.slots args.now (length instrs.old)) }
 {
     for e in args {
@@ -300,6 +308,7 @@ pub fn push_items(
     scope: &Scope,
     items: &[Item],
 ) -> Result<(), NoMemory>
+    requires { IsSmall (length instrs.old + items_size items.now) }
     ensures { OnOk result (instrs.new ≡ instrs.old ++ statements.items_code names.now scope.now.slots items.now (length instrs.old)) }
 {
     for item in items {
@@ -319,6 +328,7 @@ pub fn printed_items(
     items: &[Item],
     text: u32,
 ) -> Result<Items<PrintItem>, NoMemory>
+    requires { IsSmall (text + length (item_texts items.now)) }
     ensures { IfOk result (λ printed. printed ≡ statements.printed_items names.now scope.now.slots items.now text) }
 {
     let mut printed = Items::new(alloc);
@@ -327,7 +337,7 @@ pub fn printed_items(
         match item {
             Item::Text(_) => {
                 printed.push(PrintItem::Text { index })?;
-                index = sum(index, 1)?;
+                index += 1;
             }
             Item::Value(e) => {
                 printed.push(printed_kind(kind_in(names, scope, e)))?;
@@ -344,6 +354,7 @@ pub fn push_widths(
     scope: &Scope,
     blocks: &[RoutineBlock],
 ) -> Result<(), NoMemory>
+    requires { IsSmall (length instrs.old + widths_size blocks.now) }
     ensures { OnOk result (instrs.new ≡ instrs.old ++ statements.widths_code names.now scope.now.slots blocks.now (length instrs.old)) }
 {
     for block in blocks {

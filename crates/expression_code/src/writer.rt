@@ -1,6 +1,7 @@
 //! Code as it is written.
 
-ghost use Rattle.std.specs.Prelude.{◌≡◌, ◌+◌, ◌++◌, ◌∷◌, [], length, OnOk, IfOk};
+ghost use Rattle.std.specs.Prelude.{◌≡◌, ◌+◌, IfOk};
+ghost use Rattle.expression_code.specs.Counts.{IsSmall};
 
 use crate::scope::Scope;
 use bytecode::Instr;
@@ -16,16 +17,18 @@ pub struct Writer {
     pub block: u32,
 }
 
-/// A sum. One of 2^32 or more is a code that no memory holds.
-pub fn sum(a: u32, b: u32) -> Result<u32, NoMemory>
-    ensures { IfOk result (λ n. n ≡ a + b) }
+/// A sum that has 32 bits.
+pub fn sum(a: u32, b: u32) -> u32
+    requires { IsSmall (a + b) }
+    ensures { result ≡ a + b }
 {
-    a.checked_add(b).ok_or(NoMemory)
+    a + b
 }
 
-/// How long a list is. One of 2^32 entries or more is a code that no memory holds.
-pub fn length_of(n: usize) -> Result<u32, NoMemory>
-    ensures { IfOk result (λ m. m ≡ n) }
+/// How long a list is that has fewer than 2^32 entries.
+pub fn length_of(n: usize) -> u32
+    requires { IsSmall n }
+    ensures { result ≡ n }
 {
-    u32::try_from(n).map_err(|_| NoMemory)
+    n as u32
 }

@@ -16,7 +16,7 @@ loop-i-preserved c =
     let d : Valued = record { at = 0; number = pos 0 } in
     let lt : i < words_in s = search rules in
     let within : i < length s.values = search rules in
-    let address : c.in_ok-sum.field-0 ≡ c.args.first + i = search rules in
+    let address : c.sum.result ≡ c.args.first + i = search rules in
     let pushed : c.push_word.new.initial ≡ c.loop-i.initial' ++ listed (c.args.first + i) (get_or s.values i d).number = search (rules, to_z-of_z) in
     step c.loop-i.initial' _ _ _ _ _ pushed (initial_word c.args.first s i d lt within) c.loop-i.invariant
 

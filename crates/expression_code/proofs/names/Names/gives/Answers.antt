@@ -10,7 +10,7 @@ pub returns-in-Some : goal.returns-in-Some
 returns-in-Some c =
     ap (λ r. given_by (option_copied r)) (sym c.in-Some.is)
     ∙ ap given_by c.get.ensures.value
-    ∙ ap (λ k. given_by (slice_get c.self.inside.program.now.functions k)) c.place.ensures
+    ∙ ap (λ k. given_by (slice_get c.self.inside.program.now.functions k)) c.place.ensures.number
     ∙ ap (λ p. given_by (slice_get p.functions (function_number c.args.self.now.functions c.args.name.now))) c.self.view_is
     ∙ given_at c.args.self.now.functions c.args.name.now
 
@@ -18,6 +18,6 @@ pub returns-in-None : goal.returns-in-None
 returns-in-None c =
     ap (λ r. given_by (option_copied r)) (sym c.in-None.is)
     ∙ ap given_by c.get.ensures.value
-    ∙ ap (λ k. given_by (slice_get c.self.inside.program.now.functions k)) c.place.ensures
+    ∙ ap (λ k. given_by (slice_get c.self.inside.program.now.functions k)) c.place.ensures.number
     ∙ ap (λ p. given_by (slice_get p.functions (function_number c.args.self.now.functions c.args.name.now))) c.self.view_is
     ∙ given_at c.args.self.now.functions c.args.name.now
