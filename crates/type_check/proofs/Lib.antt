@@ -10,3 +10,4 @@ pub mod FunctionLemmas
 pub mod WordLemmas
 pub mod Examples
 pub mod Facts
+pub mod FirstLemmas
