@@ -1,4 +1,4 @@
-//! Worked rows of scripts and of the engine. The tests stand here, since a crate that has tests is proved twice.
+//! Worked rows of the engine. The tests stand here, since a crate that has tests is proved twice.
 #![tactic(auto)]
 
 #[cfg(test)]
@@ -7,7 +7,5 @@ mod alone;
 mod engine;
 #[cfg(test)]
 mod fetches;
-#[cfg(test)]
-mod scripts;
 #[cfg(test)]
 mod worker_pages;
