@@ -30,7 +30,8 @@ value_given gives.Bool h = refl
 function_is : (p : Program) (names : Names) (f : Function) → Knows p.functions names → inside_faults names f ≡ [] → HeadsAre (variant.Block f.body) → FunctionIs p f
 function_is p names f knows none heads =
     record {
-      body = form_is p names knows (body_of (body.Function f.gives)) (with_params names f.params) 0 (variant.Block f.body) (params_known p.functions f.params names knows) (function-body names f none) heads;
+      body = form_is p names knows (body_of (body.Function f.gives)) (with_params names f.params) 0 (variant.Block f.body) (params_known p.functions f.params names knows) (function-body names f none)
+          heads;
       returns = λ value. (function_returns names (with_params names f.params) f (function-body names f none), function_ends f (function-ends names f none (value_given f.gives value)));
     }
 
@@ -40,7 +41,8 @@ functions_are : (p : Program) (fs rest : List Function) (names : Names) → p.fu
 functions_are p fs [] names split stand none name f e heads = absurd cc
 functions_are p fs (g ∷ rest) names split stand none name f e heads =
     by (bytes_eq g.name.text name) e (λ own_heads. function_is p (with_own names g) g knows (first-function names g rest none) own_heads)
-    (λ e'. functions_are p (fs ++ g ∷ []) rest (with_function names g) (split_on g split) (one_function fs g (touches_tally (with_own names g) g) names stand) (other-functions names g rest none) name f e' heads)
+    (λ e'. functions_are p (fs ++ g ∷ []) rest (with_function names g) (split_on g split) (one_function fs g (touches_tally (with_own names g) g) names stand) (other-functions names g rest none) name
+    f e' heads)
   where
     split_on : (g : Function) → p.functions ≡ fs ++ g ∷ rest → p.functions ≡ (fs ++ g ∷ []) ++ rest
     split_on g split = split ∙ sym (append_assoc fs (g ∷ []) rest)
@@ -48,13 +50,15 @@ functions_are p fs (g ∷ rest) names split stand none name f e heads =
     knows : Knows p.functions (with_own names g)
     knows = subst (λ (l : List Function). Knows l (with_own names g)) (sym (split_on g split)) (known_behind (fs ++ g ∷ []) rest (with_own names g) (one_function fs g false names stand).knows)
 
-    by : (b : Bool) → (if b then Some g else function_named rest name) ≡ Some f → (HeadsAre (variant.Block g.body) → FunctionIs p g) → (function_named rest name ≡ Some f → FunctionIs p f) → FunctionIs p f
+    by : (b : Bool) → (if b then Some g else function_named rest name) ≡ Some f → (HeadsAre (variant.Block g.body) → FunctionIs p g) → (function_named rest name ≡ Some f → FunctionIs p f)
+        → FunctionIs p f
     by true is own others = let same : f ≡ g = cc in subst (λ (h : Function). FunctionIs p h) (sym same) (own (subst (λ (h : Function). HeadsAre (variant.Block h.body)) same heads))
     by false is own others = others is
 
 pub accepted_shape : (p : Program) → IsSpelledWithin text_limit p → IsAccepted p → HasShape p
 accepted_shape p spelled accepted =
     record {
-      functions = λ name f named. functions_are p [] p.functions (with_shared [] p.shared) refl (no_functions p.shared) (accepted-functions p accepted) name f named (function_heads p spelled name f named);
+      functions = λ name f named. functions_are p [] p.functions (with_shared [] p.shared) refl (no_functions p.shared) (accepted-functions p accepted) name f named
+          (function_heads p spelled name f named);
       main = form_is p (global_names p) (main_knows p) (body_of body.Main) (global_names p) 0 (variant.Block p.main) (main_knows p) (accepted_main p accepted) (main_heads p spelled);
     }

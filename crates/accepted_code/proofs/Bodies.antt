@@ -11,7 +11,8 @@ use Rattle.csl_tree.specs.declared.program.Function.{Function}
 use Rattle.cal_terms.specs.declared.types.Ty.TheVariants as type
 use Rattle.csl_tree.specs.declared.program.Arm.{Arm'}
 use Rattle.csl_tree.specs.declared.program.RoutineBlock.{RoutineBlock, RoutineBlock'}
-use Rattle.csl_tree.specs.declared.program.Form.{Form, Declare, Set, AddTo, If', While', For', Break, Continue, Return, CallOf, Assert, Block', Print, Par', Row_of-Arm, end_of-Arm, more_of-Arm, Row_of-Stmt, end_of-Stmt, more_of-Stmt, Held-Form-If-1, Row_of-RoutineBlock, end_of-RoutineBlock, more_of-RoutineBlock}
+use Rattle.csl_tree.specs.declared.program.Form.{Form, Declare, Set, AddTo, If', While', For', Break, Continue, Return, CallOf, Assert, Block', Print, Par', Row_of-Arm, end_of-Arm, more_of-Arm}
+use Rattle.csl_tree.specs.declared.program.Form.{Row_of-Stmt, end_of-Stmt, more_of-Stmt, Held-Form-If-1, Row_of-RoutineBlock, end_of-RoutineBlock, more_of-RoutineBlock}
 use Rattle.csl_tree.specs.declared.program.Form as form
 use Rattle.csl_tree.specs.declared.program.Form.TheVariants as variant
 use Rattle.csl_meaning.specs.Layout.{Text}
@@ -27,7 +28,8 @@ use Rattle.type_check.specs.Names.{Names, taken, declare}
 use Rattle.type_check.specs.Expressions.{value_faults}
 use Rattle.type_check.specs.Bodies.{locals_in, locals_in_row, locals_in_arms, locals_in_last, ends, after, after_row}
 use Rattle.type_check.specs.Statements.{in_loop, body_of, is_main, too_many_locals, most_locals, most_blocks, blocks_at, faults, row_faults, arm_faults, last_faults, block_faults}
-use Rattle.type_check.specs.Faults.{IsAccepted, most_functions, most_params, shared_faults, word_faults, with_shared, with_params, param_faults, body_faults, gives_value, inside_faults, all_function_faults, global_names, main_faults}
+use Rattle.type_check.specs.Faults.{IsAccepted, most_functions, most_params, shared_faults, word_faults, with_shared, with_params, param_faults, body_faults, gives_value, inside_faults}
+use Rattle.type_check.specs.Faults.{all_function_faults, global_names, main_faults}
 use Rattle.type_check.proofs.CleanLemmas.{none_in_first, none_in_second, accepted_none, accepted_main}
 use Rattle.type_check.proofs.Facts.{within, function-body, function-params}
 use Rattle.bytecode.specs.declared.instr.Instr.{Instr}
@@ -130,10 +132,12 @@ module _ (globals : Names) where
         all_both (IsClean globals) (steps_in_arms arms) (steps_in_last last)
         (steps_clean_arms here names arms (none_in_first (arm_faults globals here names arms) (last_faults globals here names last) h))
         (steps_clean_last here names last (none_in_second (arm_faults globals here names arms) (last_faults globals here names last) h))
-    steps_clean here names at (While' test shape inner) h = steps_clean_row (in_loop here) names inner (none_in_second (value_faults here.body names typed.Bool test) (row_faults globals (in_loop here) names inner) h)
+    steps_clean here names at (While' test shape inner) h = steps_clean_row (in_loop here) names inner
+        (none_in_second (value_faults here.body names typed.Bool test) (row_faults globals (in_loop here) names inner) h)
     steps_clean here names at (For' shape first test shape' next' shape'' inner) h =
         steps_clean_row (in_loop here) (after_row names first) inner
-        (none_in_second (row_faults globals here names first ++ value_faults here.body (after_row names first) typed.Bool test ++ row_faults globals here (after_row names first) next') (row_faults globals (in_loop here) (after_row names first) inner) h)
+        (none_in_second (row_faults globals here names first ++ value_faults here.body (after_row names first) typed.Bool test ++ row_faults globals here (after_row names first) next')
+        (row_faults globals (in_loop here) (after_row names first) inner) h)
     steps_clean here names at Break h = tt
     steps_clean here names at Continue h = tt
     steps_clean here names at (Return given) h = tt
@@ -143,7 +147,8 @@ module _ (globals : Names) where
     steps_clean here names at (Print items) h = tt
     steps_clean here names at (Par' shape blocks) h = step_clean here.body names blocks (only_main (is_main here.body) h)
       where
-        only_main : (b : Bool) → (if b then (block_faults globals here.body names blocks ++ beyond most_blocks (blocks_at blocks)) else fault OnlyInMain at) ≡ [] → block_faults globals here.body names blocks ≡ []
+        only_main : (b : Bool) → (if b then (block_faults globals here.body names blocks ++ beyond most_blocks (blocks_at blocks)) else fault OnlyInMain at) ≡ []
+            → block_faults globals here.body names blocks ≡ []
         only_main true h' = none_in_first (block_faults globals here.body names blocks) (beyond most_blocks (blocks_at blocks)) h'
         only_main false h' = cc
 
@@ -191,7 +196,8 @@ function_few names f none =
 main_few : (p : Program) → IsAccepted p → too_many_locals (locals_in (variant.Block p.main)) ≡ []
 main_few p accepted =
     none_in_second (body_faults (global_names p) body.Main (global_names p) p.main) (too_many_locals (locals_in (variant.Block p.main)))
-    (none_in_second (shared_faults [] p.shared ++ word_faults 0 p.shared ++ all_function_faults (with_shared [] p.shared) p.functions ++ beyond most_functions (map (λ f. f.name.at) p.functions)) (main_faults (global_names p) p.main) (accepted_none p accepted))
+    (none_in_second (shared_faults [] p.shared ++ word_faults 0 p.shared ++ all_function_faults (with_shared [] p.shared) p.functions ++ beyond most_functions (map (λ f. f.name.at) p.functions))
+    (main_faults (global_names p) p.main) (accepted_none p accepted))
 
 -- ---- the limits
 
@@ -204,7 +210,8 @@ main_locals p accepted =
 
 -- each routine block of main is without faults
 clean_at : (p : Program) → IsAccepted p → (n : ℕ) (b : RoutineBlock) → slice_get (steps_in (variant.Block p.main)) n ≡ Some b → IsClean (global_names p) b
-clean_at p accepted n b e = all_at (IsClean (global_names p)) (steps_in (variant.Block p.main)) n b (steps_clean (global_names p) (body_of body.Main) (global_names p) 0 (variant.Block p.main) (accepted_main p accepted)) e
+clean_at p accepted n b e = all_at (IsClean (global_names p)) (steps_in (variant.Block p.main)) n b
+    (steps_clean (global_names p) (body_of body.Main) (global_names p) 0 (variant.Block p.main) (accepted_main p accepted)) e
 
 -- and has 64 locals at most
 pub block_locals : (p : Program) → IsAccepted p → (n : ℕ) (b : RoutineBlock) → slice_get (steps_in (variant.Block p.main)) n ≡ Some b → length (block_code p b).locals ≤ 64

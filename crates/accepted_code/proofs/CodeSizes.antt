@@ -18,15 +18,20 @@ use Rattle.csl_tree.specs.declared.program.Item.TheVariants as item
 use Rattle.csl_tree.specs.declared.program.Stmt.{Stmt}
 use Rattle.csl_tree.specs.declared.program.Arm.{Arm, Arm', roll-Arm}
 use Rattle.csl_tree.specs.declared.program.RoutineBlock.{RoutineBlock, RoutineBlock', roll-RoutineBlock}
-use Rattle.csl_tree.specs.declared.program.Form.{Form, Declare, Set, AddTo, If', While', For', Break, Continue, Return, Assert, Block', Print, Par', Row_of-Arm, end_of-Arm, more_of-Arm, Row_of-Stmt, end_of-Stmt, more_of-Stmt, Held-Form-If-1, Row_of-RoutineBlock, end_of-RoutineBlock, more_of-RoutineBlock}
+use Rattle.csl_tree.specs.declared.program.Form.{Form, Declare, Set, AddTo, If', While', For', Break, Continue, Return, Assert, Block', Print, Par', Row_of-Arm, end_of-Arm, more_of-Arm, Row_of-Stmt}
+use Rattle.csl_tree.specs.declared.program.Form.{end_of-Stmt, more_of-Stmt, Held-Form-If-1, Row_of-RoutineBlock, end_of-RoutineBlock, more_of-RoutineBlock}
 use Rattle.csl_tree.specs.declared.program.Form as form
-use Rattle.csl_tree.specs.declared.program.Form.TheBlock.{shape-the_row-Stmt-1, hidden-the_row-Stmt-1, shape-the_row-Stmt-2, hidden-the_row-Stmt-2, shape-the_row-Arm-0, hidden-the_row-Arm-0, shape-the_row-RoutineBlock-3, hidden-the_row-RoutineBlock-3, back-Form-If-1}
-use Rattle.csl_grammar.specs.Expressions.{SpellsExpr, SpellsChain, SpellsArguments, SpellsMore, chain, prefixed, number, truth, named, indexed, called, paren, ends, goes_on, nothing, something, no_more, more}
+use Rattle.csl_tree.specs.declared.program.Form.TheBlock.{shape-the_row-Stmt-1, hidden-the_row-Stmt-1, shape-the_row-Stmt-2, hidden-the_row-Stmt-2, shape-the_row-Arm-0, hidden-the_row-Arm-0}
+use Rattle.csl_tree.specs.declared.program.Form.TheBlock.{shape-the_row-RoutineBlock-3, hidden-the_row-RoutineBlock-3, back-Form-If-1}
+use Rattle.csl_grammar.specs.Expressions.{SpellsExpr, SpellsChain, SpellsArguments, SpellsMore, chain, prefixed, number, truth, named, indexed, called, paren, ends, goes_on, nothing, something}
+use Rattle.csl_grammar.specs.Expressions.{no_more, more}
 use Rattle.csl_grammar.specs.Programs as grammar
-use Rattle.csl_grammar.specs.Programs.{SpellsPlace, SpellsCall, SpellsDecl, SpellsChange, SpellsItem, MoreOf, ListOf, SpellsStmt, SpellsStart, SpellsBlock, SpellsStmts, SpellsArm, SpellsElse, SpellsRoutine, SpellsRoutines}
+use Rattle.csl_grammar.specs.Programs.{SpellsPlace, SpellsCall, SpellsDecl, SpellsChange, SpellsItem, MoreOf, ListOf, SpellsStmt, SpellsStart, SpellsBlock, SpellsStmts, SpellsArm, SpellsElse}
+use Rattle.csl_grammar.specs.Programs.{SpellsRoutine, SpellsRoutines}
 use Rattle.csl_meaning.specs.Effect.{function_named, blocks_in}
 use Rattle.compiled_code.specs.Slots.{Slot, Slots, slot_of}
-use Rattle.compiled_code.specs.Sizes.{operator_size, value_size, place_size, boxed_size, values_size, size_of, returned_size, items_size, widths_size, drop_size, given_by, kinds_in, kinds_in_row, kinds_in_arms, item_texts, texts_in, texts_in_row, texts_in_arms, texts_in_last, steps_in, steps_in_row, steps_in_arms, steps_in_last}
+use Rattle.compiled_code.specs.Sizes.{operator_size, value_size, place_size, boxed_size, values_size, size_of, returned_size, items_size, widths_size, drop_size, given_by, kinds_in, kinds_in_row}
+use Rattle.compiled_code.specs.Sizes.{kinds_in_arms, item_texts, texts_in, texts_in_row, texts_in_arms, texts_in_last, steps_in, steps_in_row, steps_in_arms, steps_in_last}
 use Rattle.compiled_code.specs.Places.{slots_after, slots_after_row, add_size, form_size, row_size, arms_size, last_size}
 use Rattle.accepted_code.proofs.Spelled.{FormSpelled, RowSpelled, ArmsSpelled, LastSpelled, BlocksSpelled}
 
@@ -179,7 +184,8 @@ items_counted grammar.nothing = omega arith
 items_counted (grammar.something d m) = omega (arith, item_counted d, more_items_counted m)
 
 mutual
-  unfolding shape-the_row-Stmt-1 hidden-the_row-Stmt-1 shape-the_row-Stmt-2 hidden-the_row-Stmt-2 shape-the_row-Arm-0 hidden-the_row-Arm-0 shape-the_row-RoutineBlock-3 hidden-the_row-RoutineBlock-3 roll-Arm roll-RoutineBlock hidden roll
+  unfolding shape-the_row-Stmt-1 hidden-the_row-Stmt-1 shape-the_row-Stmt-2 hidden-the_row-Stmt-2 shape-the_row-Arm-0 hidden-the_row-Arm-0 shape-the_row-RoutineBlock-3 hidden-the_row-RoutineBlock-3
+      roll-Arm roll-RoutineBlock hidden roll
 
   pub stmt_counted : {tokens rest : List Token} {s : Stmt} → SpellsStmt tokens rest s → form_tokens s.form + length rest ≤ length tokens
   stmt_counted (grammar.declared d k) = omega (arith, decl_counted d)
@@ -207,7 +213,8 @@ mutual
   pub arm_counted : {tokens rest : List Token} {a : Arm} → SpellsArm tokens rest a → arm_tokens a + length rest ≤ length tokens
   arm_counted (grammar.tested o d c b) = omega (arith, expr_counted d, block_counted b)
 
-  pub else_counted : {tokens rest : List Token} {arms : List Arm} {last : Option (List Stmt)} → SpellsElse tokens rest arms last → arms_tokens (hidden-the_row-Arm-0 arms) + last_tokens (back-Form-If-1 last) + length rest ≤ length tokens
+  pub else_counted : {tokens rest : List Token} {arms : List Arm} {last : Option (List Stmt)} → SpellsElse tokens rest arms last
+      → arms_tokens (hidden-the_row-Arm-0 arms) + last_tokens (back-Form-If-1 last) + length rest ≤ length tokens
   else_counted grammar.no_else = omega arith
   else_counted (grammar.else_if {a = a} {arms = arms} k i d l) = omega (arith, arm_counted d, else_counted l, arms_more a (hidden-the_row-Arm-0 arms))
   else_counted (grammar.else_block k b) = omega (arith, block_counted b)
@@ -366,7 +373,8 @@ mutual
 
 -- its body is spelled, its code has at most so many instructions, and it prints at most so many texts and opens at most so many routine blocks
 abbrev pub RoutineFits : Program → ℕ → RoutineBlock → Type 0
-RoutineFits p limit (RoutineBlock' at width width_name id_name shape body) = RowSpelled body × ((slots : Slots) (slot : ℕ) → row_size p body slots slot ≤ limit) × (length (texts_in_row body) ≤ limit) × (length (steps_in_row body) ≤ limit)
+RoutineFits p limit (RoutineBlock' at width width_name id_name shape body) = RowSpelled body × ((slots : Slots) (slot : ℕ) → row_size p body slots slot ≤ limit) × (length (texts_in_row body) ≤ limit)
+    × (length (steps_in_row body) ≤ limit)
 
 pub record RoutinesFit (p : Program) (limit : ℕ) (blocks : List RoutineBlock) : Type 0 where
   pub each : AllByRecursion (RoutineFits p limit) blocks

@@ -125,7 +125,8 @@ module _ (m : Module) (c : Code) (taken : Taken) (Ok : Instr → Type 0) where
       absurd (none rest (record { place = place; instr = x; here = here; stands = stands; taken_with = is_here; leads_on = led; leaves = leaves }))
 
   -- an instruction that leads to the next place
-  pub falls : (place : ℕ) (x : Instr) (here rest : Kinds) → Falls x → Stands c place x → KindsAt taken place here → IsInRange m c x → after m c x here ≡ Some rest → length here ≤ most_operands → Ok x → KindsAt taken (place + 1) rest → Fine place x
+  pub falls : (place : ℕ) (x : Instr) (here rest : Kinds) → Falls x → Stands c place x → KindsAt taken place here → IsInRange m c x → after m c x here ≡ Some rest → length here ≤ most_operands → Ok x
+      → KindsAt taken (place + 1) rest → Fine place x
   falls place x here rest plain stands is_here in_range leaves short allowed next =
       record {
         here = here;
@@ -143,7 +144,8 @@ module _ (m : Module) (c : Code) (taken : Taken) (Ok : Instr → Type 0) where
       }
 
   -- a jump on
-  pub jumps : (place t : ℕ) (here : Kinds) → KindsAt taken place here → IsPlace c t → place < t → length here ≤ most_operands → Ok (i.Jump t) → KindsAt taken t here → NextAlone place → Fine place (i.Jump t)
+  pub jumps : (place t : ℕ) (here : Kinds) → KindsAt taken place here → IsPlace c t → place < t → length here ≤ most_operands → Ok (i.Jump t) → KindsAt taken t here → NextAlone place
+      → Fine place (i.Jump t)
   jumps place t here is_here inside ahead short allowed there next =
       record {
         here = here;
@@ -160,7 +162,8 @@ module _ (m : Module) (c : Code) (taken : Taken) (Ok : Instr → Type 0) where
         next = next;
       }
 
-  branch_goes : (place t : ℕ) (rest : Kinds) → KindsAt taken t rest → KindsAt taken (place + 1) rest → (to : ℕ) (b : Bool) → (t == to) ≡ b → IsTrue (if b then true else place + 1 == to) → KindsAt taken to rest
+  branch_goes : (place t : ℕ) (rest : Kinds) → KindsAt taken t rest → KindsAt taken (place + 1) rest → (to : ℕ) (b : Bool) → (t == to) ≡ b → IsTrue (if b then true else place + 1 == to)
+      → KindsAt taken to rest
   branch_goes place t rest there next to true e led = subst (λ (n : ℕ). KindsAt taken n rest) (eqb-true t to e) there
   branch_goes place t rest there next to false e led = subst (λ (n : ℕ). KindsAt taken n rest) (eqb-true (place + 1) to led) next
 
@@ -169,7 +172,8 @@ module _ (m : Module) (c : Code) (taken : Taken) (Ok : Instr → Type 0) where
   branch_next false place = same_place (place + 1)
 
   -- a branch on
-  pub branches : (place t : ℕ) (rest : Kinds) → Stands c place (i.Branch t) → KindsAt taken place (Truth' ∷ rest) → IsPlace c t → place < t → length rest + 1 ≤ most_operands → Ok (i.Branch t) → KindsAt taken t rest → KindsAt taken (place + 1) rest → Fine place (i.Branch t)
+  pub branches : (place t : ℕ) (rest : Kinds) → Stands c place (i.Branch t) → KindsAt taken place (Truth' ∷ rest) → IsPlace c t → place < t → length rest + 1 ≤ most_operands → Ok (i.Branch t)
+      → KindsAt taken t rest → KindsAt taken (place + 1) rest → Fine place (i.Branch t)
   branches place t rest stands is_here inside ahead short allowed there next =
       record {
         here = Truth' ∷ rest;

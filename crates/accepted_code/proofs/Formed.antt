@@ -11,7 +11,8 @@ use Rattle.csl_tree.specs.declared.program.Item.{Item}
 use Rattle.csl_tree.specs.declared.program.Item.TheVariants as item
 use Rattle.csl_tree.specs.declared.program.Arm.{Arm'}
 use Rattle.csl_tree.specs.declared.program.RoutineBlock.{RoutineBlock'}
-use Rattle.csl_tree.specs.declared.program.Form.{Form, Declare, Set, AddTo, If', While', For', Break, Continue, Return, Assert, Block', Print, Par', Row_of-Arm, end_of-Arm, more_of-Arm, Row_of-Stmt, end_of-Stmt, more_of-Stmt, Held-Form-If-1, Row_of-RoutineBlock, end_of-RoutineBlock, more_of-RoutineBlock}
+use Rattle.csl_tree.specs.declared.program.Form.{Form, Declare, Set, AddTo, If', While', For', Break, Continue, Return, Assert, Block', Print, Par', Row_of-Arm, end_of-Arm, more_of-Arm, Row_of-Stmt}
+use Rattle.csl_tree.specs.declared.program.Form.{end_of-Stmt, more_of-Stmt, Held-Form-If-1, Row_of-RoutineBlock, end_of-RoutineBlock, more_of-RoutineBlock}
 use Rattle.csl_tree.specs.declared.program.Form as form
 use Rattle.type_check.specs.declared.fault.CheckKind.TheVariants.{WrongType, WrongReturn, OnlyInMain}
 use Rattle.type_check.specs.declared.body.Body.{Body}
@@ -24,7 +25,8 @@ use Rattle.type_check.specs.Listed.{fault, fault_if, beyond}
 use Rattle.type_check.specs.Names.{Names, taken, declare, of_ty, given, is_bad, same, wanted, some_value}
 use Rattle.type_check.specs.Expressions.{place_type, place_tally, part_of, node_faults, place_faults, value_faults}
 use Rattle.type_check.specs.Bodies.{locals_in_row, after, after_row}
-use Rattle.type_check.specs.Statements.{in_loop, body_of, is_main, result_of, no_bool, return_faults, item_faults, item_at, blocks_at, too_many_locals, most_items, most_blocks, faults, row_faults, arm_faults, last_faults, block_faults}
+use Rattle.type_check.specs.Statements.{in_loop, body_of, is_main, result_of, no_bool, return_faults, item_faults, item_at, blocks_at, too_many_locals, most_items, most_blocks, faults, row_faults}
+use Rattle.type_check.specs.Statements.{arm_faults, last_faults, block_faults}
 use Rattle.type_check.proofs.CleanLemmas.{none_in_first, none_in_second, none_if, wanted_same, well_typed, place_well_typed}
 use Rattle.compiled_code.specs.Shape.{OneOf, IsSimple, IsChange, ValueIs, PlaceIs, ItemsAre, ReturnIs, FormIs, RowIs, ArmsAre, LastIs, BlocksAre}
 use Rattle.accepted_code.proofs.Known.{Knows, local_known}
@@ -82,22 +84,26 @@ module _ (p : Program) where
   items_are b names (item.Text text ∷ rest) knows h = items_are b names rest knows h
   items_are b names (item.Value e ∷ rest) knows h =
       let both = none_in_first (node_faults b names e.node ++ some_value (part_of names e)) (item_faults b names rest) h in (
-        value_is p b names knows e.node (none_in_first (node_faults b names e.node) (some_value (part_of names e)) both) (none_if (same typed.Nothing (part_of names e).typed) WrongType e.at (none_in_second (node_faults b names e.node) (some_value (part_of names e)) both)),
+        value_is p b names knows e.node (none_in_first (node_faults b names e.node) (some_value (part_of names e)) both)
+            (none_if (same typed.Nothing (part_of names e).typed) WrongType e.at (none_in_second (node_faults b names e.node) (some_value (part_of names e)) both)),
         items_are b names rest knows (none_in_second (node_faults b names e.node ++ some_value (part_of names e)) (item_faults b names rest) h),
       )
 
-  set_is : (b : Body) (names : Names) (place : Place) (e : Expr) (middle : List _) → Knows p.functions names → place_faults b names place ++ middle ++ value_faults b names (place_type names place) e ≡ [] → PlaceIs p place × ValueIs p e.node
+  set_is : (b : Body) (names : Names) (place : Place) (e : Expr) (middle : List _) → Knows p.functions names
+      → place_faults b names place ++ middle ++ value_faults b names (place_type names place) e ≡ [] → PlaceIs p place × ValueIs p e.node
   set_is b names place e middle knows h =
       let first_two = none_in_first (place_faults b names place ++ middle) (value_faults b names (place_type names place) e) h in (
         place_is p b names knows place (none_in_first (place_faults b names place) middle first_two),
-        wanted_value b names knows (place_type names place) e (place_well_typed b names place middle first_two) (place_some names place) (none_in_second (place_faults b names place ++ middle) (value_faults b names (place_type names place) e) h),
+        wanted_value b names knows (place_type names place) e (place_well_typed b names place middle first_two) (place_some names place)
+            (none_in_second (place_faults b names place ++ middle) (value_faults b names (place_type names place) e) h),
       )
 
   module _ (globals : Names) (known : Knows p.functions globals) where
     mutual
       -- a statement
       pub form_is : (here : Here) (names : Names) (at : ℕ) (f : Form) → Knows p.functions names → faults globals here names at f ≡ [] → HeadsAre f → FormIs p f
-      form_is here names at (Declare t name e) knows h heads = wanted_value here.body names knows (of_ty t) e (good_ty t) (some_ty t) (none_in_first (value_faults here.body names (of_ty t) e) (taken names name) h)
+      form_is here names at (Declare t name e) knows h heads = wanted_value here.body names knows (of_ty t) e (good_ty t) (some_ty t)
+          (none_in_first (value_faults here.body names (of_ty t) e) (taken names name) h)
       form_is here names at (Set place e) knows h heads = set_is here.body names place e (place_tally here.body names place) knows h
       form_is here names at (AddTo place e) knows h heads = set_is here.body names place e (no_bool names place) knows h
       form_is here names at (If' shape arms last) knows h heads = (
@@ -111,14 +117,17 @@ module _ (p : Program) where
       form_is here names at (For' shape first test shape' next' shape'' body) knows h heads =
           let inside = after_row names first in
           let inside_knows = after_row_known names first knows in
-          let three = none_in_first (row_faults globals here names first ++ value_faults here.body inside typed.Bool test ++ row_faults globals here inside next') (row_faults globals (in_loop here) inside body) h in
+          let three = none_in_first (row_faults globals here names first ++ value_faults here.body inside typed.Bool test ++ row_faults globals here inside next')
+          (row_faults globals (in_loop here) inside body) h in
           let two = none_in_first (row_faults globals here names first ++ value_faults here.body inside typed.Bool test) (row_faults globals here inside next') three in (
             heads.0,
             row_is here names first knows (none_in_first (row_faults globals here names first) (value_faults here.body inside typed.Bool test) two) (one_simple first heads.0),
             wanted_value here.body inside inside_knows typed.Bool test refl refl (none_in_second (row_faults globals here names first) (value_faults here.body inside typed.Bool test) two),
             heads.1,
-            row_is here inside next' inside_knows (none_in_second (row_faults globals here names first ++ value_faults here.body inside typed.Bool test) (row_faults globals here inside next') three) (one_change next' heads.1),
-            row_is (in_loop here) inside body inside_knows (none_in_second (row_faults globals here names first ++ value_faults here.body inside typed.Bool test ++ row_faults globals here inside next') (row_faults globals (in_loop here) inside body) h) heads.2,
+            row_is here inside next' inside_knows (none_in_second (row_faults globals here names first ++ value_faults here.body inside typed.Bool test) (row_faults globals here inside next') three)
+                (one_change next' heads.1),
+            row_is (in_loop here) inside body inside_knows (none_in_second (row_faults globals here names first ++ value_faults here.body inside typed.Bool test
+                ++ row_faults globals here inside next') (row_faults globals (in_loop here) inside body) h) heads.2,
           )
       form_is here names at Break knows h heads = tt
       form_is here names at Continue knows h heads = tt
@@ -132,7 +141,8 @@ module _ (p : Program) where
           (none_in_first (fault_if (not (is_main here.body)) OnlyInMain at ++ item_faults here.body names items) (beyond most_items (map item_at items)) h))
       form_is here names at (Par' shape blocks) knows h heads = blocks_are here.body names blocks knows (only_main (is_main here.body) h) heads
         where
-          only_main : (b : Bool) → (if b then (block_faults globals here.body names blocks ++ beyond most_blocks (blocks_at blocks)) else fault OnlyInMain at) ≡ [] → block_faults globals here.body names blocks ≡ []
+          only_main : (b : Bool) → (if b then (block_faults globals here.body names blocks ++ beyond most_blocks (blocks_at blocks)) else fault OnlyInMain at) ≡ []
+              → block_faults globals here.body names blocks ≡ []
           only_main true h' = none_in_first (block_faults globals here.body names blocks) (beyond most_blocks (blocks_at blocks)) h'
           only_main false h' = cc
 
@@ -162,12 +172,14 @@ module _ (p : Program) where
           let inside = declare (declare globals width_name (declared.Local ty.Int)) id_name (declared.Local ty.Int) in
           let inside_knows = local_known p.functions (declare globals width_name (declared.Local ty.Int)) id_name ty.Int (local_known p.functions globals width_name ty.Int known) in
           let head = value_faults b names typed.Int width ++ taken globals width_name ++ taken (declare globals width_name (declared.Local ty.Int)) id_name in
-          let all_but_rest = none_in_first (head ++ row_faults globals (body_of body.Routine) inside statements ++ too_many_locals (width_name ∷ id_name ∷ locals_in_row statements)) (block_faults globals b names rest) h in
+          let all_but_rest = none_in_first (head ++ row_faults globals (body_of body.Routine) inside statements ++ too_many_locals (width_name ∷ id_name ∷ locals_in_row statements))
+          (block_faults globals b names rest) h in
           let to_body = none_in_first (head ++ row_faults globals (body_of body.Routine) inside statements) (too_many_locals (width_name ∷ id_name ∷ locals_in_row statements)) all_but_rest in
           let to_head = none_in_first head (row_faults globals (body_of body.Routine) inside statements) to_body in (
             wanted_value b names knows typed.Int width refl refl
                 (none_in_first (value_faults b names typed.Int width) (taken globals width_name)
                 (none_in_first (value_faults b names typed.Int width ++ taken globals width_name) (taken (declare globals width_name (declared.Local ty.Int)) id_name) to_head)),
             row_is (body_of body.Routine) inside statements inside_knows (none_in_second head (row_faults globals (body_of body.Routine) inside statements) to_body) heads.0,
-            blocks_are b names rest knows (none_in_second (head ++ row_faults globals (body_of body.Routine) inside statements ++ too_many_locals (width_name ∷ id_name ∷ locals_in_row statements)) (block_faults globals b names rest) h) heads.1,
+            blocks_are b names rest knows (none_in_second (head ++ row_faults globals (body_of body.Routine) inside statements ++ too_many_locals (width_name ∷ id_name ∷ locals_in_row statements))
+                (block_faults globals b names rest) h) heads.1,
           )

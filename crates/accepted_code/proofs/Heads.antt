@@ -8,12 +8,17 @@ use Rattle.csl_tree.specs.declared.program.Function.{Function}
 use Rattle.csl_tree.specs.declared.program.Stmt.{Stmt}
 use Rattle.csl_tree.specs.declared.program.Arm.{Arm, Arm', roll-Arm}
 use Rattle.csl_tree.specs.declared.program.RoutineBlock.{RoutineBlock, RoutineBlock', roll-RoutineBlock}
-use Rattle.csl_tree.specs.declared.program.Form.{Form, If', While', For', Block', Par', Row_of-Arm, end_of-Arm, more_of-Arm, Row_of-Stmt, end_of-Stmt, more_of-Stmt, Held-Form-If-1, Row_of-RoutineBlock, end_of-RoutineBlock, more_of-RoutineBlock}
+use Rattle.csl_tree.specs.declared.program.Form.{Form, If', While', For', Block', Par', Row_of-Arm, end_of-Arm, more_of-Arm, Row_of-Stmt, end_of-Stmt, more_of-Stmt, Held-Form-If-1}
+use Rattle.csl_tree.specs.declared.program.Form.{Row_of-RoutineBlock, end_of-RoutineBlock, more_of-RoutineBlock}
 use Rattle.csl_tree.specs.declared.program.Form as form
 use Rattle.csl_tree.specs.declared.program.Form.TheVariants as variant
-use Rattle.csl_tree.specs.declared.program.Form.TheBlock.{shape-the_row-Stmt-1, hidden-the_row-Stmt-1, shape-the_row-Stmt-2, hidden-the_row-Stmt-2, shape-the_row-Arm-0, hidden-the_row-Arm-0, shape-the_row-RoutineBlock-3, hidden-the_row-RoutineBlock-3, back-Form-If-1}
+use Rattle.csl_tree.specs.declared.program.Form.TheBlock.{shape-the_row-Stmt-1, hidden-the_row-Stmt-1, shape-the_row-Stmt-2, hidden-the_row-Stmt-2, shape-the_row-Arm-0, hidden-the_row-Arm-0}
+use Rattle.csl_tree.specs.declared.program.Form.TheBlock.{shape-the_row-RoutineBlock-3, hidden-the_row-RoutineBlock-3, back-Form-If-1}
 use Rattle.csl_meaning.specs.Effect.{function_named}
-use Rattle.csl_grammar.specs.Programs.{SpellsDecl, declare, SpellsChange, set, add_to, SpellsStmt, declared, changed, calls, block, if_else, while_loop, for_loop, break_out, goes_on, returns, returns_value, asserts, prints, parallel, SpellsStart, declares, changes, SpellsBlock, braces, SpellsStmts, none, one_more, SpellsArm, tested, SpellsElse, no_else, else_if, else_block, SpellsRoutine, routine, SpellsRoutines, no_routine, one_routine, SpellsFunction, function, Each, stop, again, SpellsProgram, program}
+use Rattle.csl_grammar.specs.Programs.{SpellsDecl, declare, SpellsChange, set, add_to, SpellsStmt, declared, changed, calls, block, if_else, while_loop, for_loop, break_out, goes_on, returns}
+use Rattle.csl_grammar.specs.Programs.{returns_value, asserts, prints, parallel, SpellsStart, declares, changes, SpellsBlock, braces, SpellsStmts, none, one_more, SpellsArm, tested, SpellsElse}
+use Rattle.csl_grammar.specs.Programs.{no_else, else_if, else_block, SpellsRoutine, routine, SpellsRoutines, no_routine, one_routine, SpellsFunction, function, Each, stop, again, SpellsProgram}
+use Rattle.csl_grammar.specs.Programs.{program}
 use Rattle.csl_grammar.specs.Texts.{IsSpelledWithin, text_limit}
 use Rattle.compiled_code.specs.Shape.{OneOf, IsSimple, IsChange}
 
@@ -66,7 +71,8 @@ start_simple (declares d) = decl_simple d
 start_simple (changes d) = change_simple d
 
 mutual
-  unfolding shape-the_row-Stmt-1 hidden-the_row-Stmt-1 shape-the_row-Stmt-2 hidden-the_row-Stmt-2 shape-the_row-Arm-0 hidden-the_row-Arm-0 shape-the_row-RoutineBlock-3 hidden-the_row-RoutineBlock-3 roll-Arm roll-RoutineBlock hidden roll
+  unfolding shape-the_row-Stmt-1 hidden-the_row-Stmt-1 shape-the_row-Stmt-2 hidden-the_row-Stmt-2 shape-the_row-Arm-0 hidden-the_row-Arm-0 shape-the_row-RoutineBlock-3 hidden-the_row-RoutineBlock-3
+      roll-Arm roll-RoutineBlock hidden roll
 
   pub stmt_heads : {ts rest : List Token} {s : Stmt} → SpellsStmt ts rest s → HeadsAre s.form
   stmt_heads (declared d s) = decl_heads d
@@ -114,7 +120,8 @@ named_heads : {ts rest : List Token} {fs : List Function} → Each SpellsFunctio
 named_heads stop name f e = absurd cc
 named_heads (again {x = g} {xs = fs} d m) name f e = by (bytes_eq g.name.text name) e (body_heads d) (named_heads m name f)
   where
-    by : (b : Bool) → (if b then Some g else function_named fs name) ≡ Some f → HeadsAre (variant.Block g.body) → (function_named fs name ≡ Some f → HeadsAre (variant.Block f.body)) → HeadsAre (variant.Block f.body)
+    by : (b : Bool) → (if b then Some g else function_named fs name) ≡ Some f → HeadsAre (variant.Block g.body) → (function_named fs name ≡ Some f → HeadsAre (variant.Block f.body))
+        → HeadsAre (variant.Block f.body)
     by true is own others = let same : g ≡ f = cc in subst (λ (h : Function). HeadsAre (variant.Block h.body)) same own
     by false is own others = others is
 

@@ -40,7 +40,8 @@ first_named (Some f) other = Some f
 first_named None other = other
 
 -- after a declaration that is no function's the same functions are known
-declared_other : (functions : List Function) (names : Names) (name : Name) (d : Declaration) → ((s : Signature) → d ≡ declared.Function s → ⊥) → Knows functions names → Knows functions (declare names name d)
+declared_other : (functions : List Function) (names : Names) (name : Name) (d : Declaration) → ((s : Signature) → d ≡ declared.Function s → ⊥) → Knows functions names
+    → Knows functions (declare names name d)
 declared_other functions names name d other knows = by (is_some (meant names name)) (λ t s e. told t s e)
   where
     told : (t : List ℕ) (s : Signature) → lookup (bytes_eq t) (names ++ (name.text, d) ∷ []) ≡ Some (declared.Function s) → Is functions t s
@@ -62,7 +63,8 @@ no_function None Tally s e = cc
 
 shared_known : (functions : List Function) (shared : List Shared) (names : Names) → Knows functions names → Knows functions (with_shared names shared)
 shared_known functions [] names knows = knows
-shared_known functions (s ∷ rest) names knows = shared_known functions rest (declare names s.name (stands_for s.size s.kind)) (declared_other functions names s.name (stands_for s.size s.kind) (no_function s.size s.kind) knows)
+shared_known functions (s ∷ rest) names knows = shared_known functions rest (declare names s.name (stands_for s.size s.kind))
+    (declared_other functions names s.name (stands_for s.size s.kind) (no_function s.size s.kind) knows)
 
 pub params_known : (functions : List Function) (qs : List Param) (names : Names) → Knows functions names → Knows functions (with_params names qs)
 params_known functions [] names knows = knows
@@ -82,7 +84,8 @@ named_behind : (fs gs : List Function) (name : List ℕ) → function_named (fs 
 named_behind [] gs name = refl
 named_behind (f ∷ fs) gs name = by (bytes_eq f.name.text name) (named_behind fs gs name)
   where
-    by : (b : Bool) → function_named (fs ++ gs) name ≡ first_named (function_named fs name) (function_named gs name) → (if b then Some f else function_named (fs ++ gs) name) ≡ first_named (if b then Some f else function_named fs name) (function_named gs name)
+    by : (b : Bool) → function_named (fs ++ gs) name ≡ first_named (function_named fs name) (function_named gs name)
+        → (if b then Some f else function_named (fs ++ gs) name) ≡ first_named (if b then Some f else function_named fs name) (function_named gs name)
     by true h = refl
     by false h = h
 
@@ -125,7 +128,8 @@ pub own_known : (fs : List Function) (f : Function) (touches : Bool) (names : Na
 own_known fs f touches names knows sees = by (is_some (meant names f.name)) new
   where
     new : Knows (fs ++ f ∷ []) (names ++ (f.name.text, as_declared f touches) ∷ [])
-    new t s e = which fs f touches t s (lookup (bytes_eq t) names) (bytes_eq t f.name.text) refl (λ e'. known_behind fs (f ∷ []) names knows t s e') (λ g e'. sees t g e') (sym (found_behind names t f.name.text (as_declared f touches)) ∙ e)
+    new t s e = which fs f touches t s (lookup (bytes_eq t) names) (bytes_eq t f.name.text) refl (λ e'. known_behind fs (f ∷ []) names knows t s e') (λ g e'. sees t g e')
+        (sym (found_behind names t f.name.text (as_declared f touches)) ∙ e)
 
     by : (b : Bool) → Knows (fs ++ f ∷ []) (names ++ (f.name.text, as_declared f touches) ∷ []) → Knows (fs ++ f ∷ []) (if b then names else names ++ (f.name.text, as_declared f touches) ∷ [])
     by true more = known_behind fs (f ∷ []) names knows
@@ -157,9 +161,11 @@ seen_own names name d = by (is_some (meant names name)) refl
 own_seen : (fs : List Function) (f : Function) (touches : Bool) (names : Names) → Sees fs names → Sees (fs ++ f ∷ []) (declare names f.name (as_declared f touches))
 own_seen fs f touches names sees t g e = by (function_named fs t) (bytes_eq f.name.text t) refl (λ h is. sees t h is) (sym (named_behind fs (f ∷ []) t) ∙ e)
   where
-    by : (o : Option Function) (b : Bool) → bytes_eq f.name.text t ≡ b → ((h : Function) → o ≡ Some h → is_some (lookup (bytes_eq t) names) ≡ true) → first_named o (if b then Some f else None) ≡ Some g → is_some (lookup (bytes_eq t) (declare names f.name (as_declared f touches))) ≡ true
+    by : (o : Option Function) (b : Bool) → bytes_eq f.name.text t ≡ b → ((h : Function) → o ≡ Some h → is_some (lookup (bytes_eq t) names) ≡ true)
+        → first_named o (if b then Some f else None) ≡ Some g → is_some (lookup (bytes_eq t) (declare names f.name (as_declared f touches))) ≡ true
     by (Some h) b is seen e' = seen_still names f.name (as_declared f touches) t (seen h refl)
-    by None true is seen e' = subst (λ (u : List ℕ). is_some (lookup (bytes_eq u) (declare names f.name (as_declared f touches))) ≡ true) (bytes_same f.name.text t is) (seen_own names f.name (as_declared f touches))
+    by None true is seen e' = subst (λ (u : List ℕ). is_some (lookup (bytes_eq u) (declare names f.name (as_declared f touches))) ≡ true) (bytes_same f.name.text t is)
+        (seen_own names f.name (as_declared f touches))
     by None false is seen e' = absurd cc
 
 -- ---- all functions

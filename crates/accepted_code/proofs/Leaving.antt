@@ -52,7 +52,8 @@ printed_below p slots [] text ks = refl
 printed_below p slots (item.Text name ∷ rest) text ks =
     below_more (items_kinds (printed_items p slots rest (text + 1))) [] (items_pushed p slots rest ks) ks (printed_below p slots rest (text + 1) ks)
 printed_below p slots (item.Value e ∷ rest) text ks =
-    below_more (items_kinds (printed_items p slots rest text)) (item_kinds (printed_kind (kind_in p slots e.node))) (items_pushed p slots rest (kind_in p slots e.node ∷ ks)) (kind_in p slots e.node ∷ ks) (printed_below p slots rest text (kind_in p slots e.node ∷ ks))
+    below_more (items_kinds (printed_items p slots rest text)) (item_kinds (printed_kind (kind_in p slots e.node))) (items_pushed p slots rest (kind_in p slots e.node ∷ ks))
+    (kind_in p slots e.node ∷ ks) (printed_below p slots rest text (kind_in p slots e.node ∷ ks))
     ∙ printed_one (kind_in p slots e.node) ks
 
 module _ (m : Module) (c : Code) (Ok : Instr → Type 0) (p : Program) (slots : Slots) where

@@ -1,5 +1,6 @@
 -- The words, the tally words, the first values and the texts of the module of an accepted program keep the rules.
-use Rattle.std.proofs.Common.{◌≡◌, ◌≢◌, ◌≤◌, ◌<◌, ◌+◌, ℕ, zero, suc, ℤ, pos, negsuc, Bool, true, false, if◌then◌else◌, List, [], ◌∷◌, ◌++◌, map, replicate, Option, Some, None, length, refl, ◌∙◌, arith, length-append}
+use Rattle.std.proofs.Common.{◌≡◌, ◌≢◌, ◌≤◌, ◌<◌, ◌+◌, ℕ, zero, suc, ℤ, pos, negsuc, Bool, true, false, if◌then◌else◌, List, [], ◌∷◌, ◌++◌, map, replicate, Option, Some, None, length, refl, ◌∙◌}
+use Rattle.std.proofs.Common.{arith, length-append}
 use Rattle.std.specs.List.{AllByRecursion}
 use Rattle.std.specs.Ordering.{int_eq}
 use Rattle.std.proofs.lemmas.List.{length-replicate}
@@ -123,7 +124,8 @@ initial_ascends : (at : ℕ) (memory : Memory) → AreAscendingFrom at (map (λ 
 initial_ascends at [] = tt
 initial_ascends at (word ∷ rest) = by (int_eq word.value (pos 0)) (initial_ascends (suc at) rest)
   where
-    by : (b : Bool) → AreAscendingFrom (suc at) (map (λ e. e.0) (initial_from (suc at) rest)) → AreAscendingFrom at (map (λ e. e.0) (if b then initial_from (suc at) rest else (at, word.value) ∷ initial_from (suc at) rest))
+    by : (b : Bool) → AreAscendingFrom (suc at) (map (λ e. e.0) (initial_from (suc at) rest))
+        → AreAscendingFrom at (map (λ e. e.0) (if b then initial_from (suc at) rest else (at, word.value) ∷ initial_from (suc at) rest))
     by true h = ascends_lower at (suc at) (map (λ e. e.0) (initial_from (suc at) rest)) (omega arith) h
     by false h = (omega arith, ascends_lower (at + 1) (suc at) (map (λ e. e.0) (initial_from (suc at) rest)) (omega arith) h)
 
@@ -131,7 +133,8 @@ initial_fits : (limit at : ℕ) (memory : Memory) → at + length memory ≤ lim
 initial_fits limit at [] h all = tt
 initial_fits limit at (word ∷ rest) h all = by (int_eq word.value (pos 0)) refl (initial_fits limit (suc at) rest (omega (arith, h)) all.1)
   where
-    by : (b : Bool) → int_eq word.value (pos 0) ≡ b → AllByRecursion (EntryFits limit) (initial_from (suc at) rest) → AllByRecursion (EntryFits limit) (if b then initial_from (suc at) rest else (at, word.value) ∷ initial_from (suc at) rest)
+    by : (b : Bool) → int_eq word.value (pos 0) ≡ b → AllByRecursion (EntryFits limit) (initial_from (suc at) rest)
+        → AllByRecursion (EntryFits limit) (if b then initial_from (suc at) rest else (at, word.value) ∷ initial_from (suc at) rest)
     by true e others = others
     by false e others = ((omega (arith, h), all.0, λ is. let same : int_eq word.value (pos 0) ≡ true = (Decides-int_eq word.value (pos 0)).1 is in absurd cc), others)
 
@@ -145,7 +148,8 @@ initial_few at (word ∷ rest) = by (int_eq word.value (pos 0)) (initial_few (su
 
 -- ---- texts
 
-texts_fit : (texts : List (List ℕ)) → AllByRecursion (λ (text : List ℕ). length text ≤ text_limit) texts → AllByRecursion (λ (text : List ℕ). AllByRecursion FitsByte text) texts → AllByRecursion FitsText texts
+texts_fit : (texts : List (List ℕ)) → AllByRecursion (λ (text : List ℕ). length text ≤ text_limit) texts → AllByRecursion (λ (text : List ℕ). AllByRecursion FitsByte text) texts
+    → AllByRecursion FitsText texts
 texts_fit [] short bytes = tt
 texts_fit (text ∷ texts) short bytes = ((omega (arith, short.0), bytes.0), texts_fit texts short.1 bytes.1)
 

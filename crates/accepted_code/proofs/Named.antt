@@ -1,5 +1,6 @@
 -- What the names of an accepted program mean to its code: a function's name is that of the function with its number.
-use Rattle.std.proofs.Common.{◌≡◌, ℕ, zero, suc, ◌+◌, ◌<◌, ◌≤◌, Bool, true, false, if◌then◌else◌, List, [], ◌∷◌, ◌++◌, map, take, length, Option, Some, None, refl, sym, ap, ◌∙◌, subst, arith, length-append}
+use Rattle.std.proofs.Common.{◌≡◌, ℕ, zero, suc, ◌+◌, ◌<◌, ◌≤◌, Bool, true, false, if◌then◌else◌, List, [], ◌∷◌, ◌++◌, map, take, length, Option, Some, None, refl, sym, ap, ◌∙◌, subst, arith}
+use Rattle.std.proofs.Common.{length-append}
 use Rattle.std.specs.Prelude.{slice_get}
 use Rattle.std.specs.Str.{bytes_eq}
 use Rattle.std.specs.Map.{lookup}
@@ -15,7 +16,8 @@ use Rattle.type_check.specs.declared.names.Declaration.{Declaration}
 use Rattle.type_check.specs.declared.names.Declaration.TheVariants as declared
 use Rattle.type_check.specs.declared.names.Signature.{Signature}
 use Rattle.type_check.specs.Names.{Names, taken, declare}
-use Rattle.type_check.specs.Faults.{IsAccepted, most_params, as_declared, with_shared, with_params, param_faults, with_own, touches_tally, inside_faults, with_function, all_function_faults, with_functions, global_names}
+use Rattle.type_check.specs.Faults.{IsAccepted, most_params, as_declared, with_shared, with_params, param_faults, with_own, touches_tally, inside_faults, with_function, all_function_faults}
+use Rattle.type_check.specs.Faults.{with_functions, global_names}
 use Rattle.type_check.proofs.CleanLemmas.{none_in_first, none_in_second}
 use Rattle.type_check.proofs.Facts.{accepted-functions, first-function, other-functions, function-params}
 use Rattle.bytecode.specs.declared.module.Code.{Code}
@@ -45,7 +47,8 @@ named_after : (fs gs : List Function) (name : Text) → function_named fs name �
 named_after [] gs name none = refl
 named_after (f ∷ fs) gs name none = by (bytes_eq f.name.text name) none (λ h. named_after fs gs name h)
   where
-    by : (b : Bool) → (if b then Some f else function_named fs name) ≡ None → (function_named fs name ≡ None → function_named (fs ++ gs) name ≡ function_named gs name) → (if b then Some f else function_named (fs ++ gs) name) ≡ function_named gs name
+    by : (b : Bool) → (if b then Some f else function_named fs name) ≡ None → (function_named fs name ≡ None → function_named (fs ++ gs) name ≡ function_named gs name)
+        → (if b then Some f else function_named (fs ++ gs) name) ≡ function_named gs name
     by true e more = absurd cc
     by false e more = more e
 
@@ -92,7 +95,8 @@ record Numbered (all : List Function) (k : ℕ) (f : Function) : Type 0 where
   number : function_number all f.name.text ≡ k
   named : function_named all f.name.text ≡ Some f
 
-numbered_from : (all fs rest : List Function) (names : Names) → all ≡ fs ++ rest → Sees fs names → all_function_faults names rest ≡ [] → (k : ℕ) (f : Function) → slice_get rest k ≡ Some f → Numbered all (length fs + k) f
+numbered_from : (all fs rest : List Function) (names : Names) → all ≡ fs ++ rest → Sees fs names → all_function_faults names rest ≡ [] → (k : ℕ) (f : Function) → slice_get rest k ≡ Some f
+    → Numbered all (length fs + k) f
 numbered_from all fs [] names split sees none k f e = absurd cc
 numbered_from all fs (g ∷ rest) names split sees none zero f e =
     let same : g ≡ f = cc in
@@ -105,7 +109,8 @@ numbered_from all fs (g ∷ rest) names split sees none zero f e =
     })
 numbered_from all fs (g ∷ rest) names split sees none (suc k) f e =
     subst (λ (n : ℕ). Numbered all n f) (next_place fs g k)
-    (numbered_from all (fs ++ g ∷ []) rest (with_function names g) (split_on fs rest g all split) (sees_more fs g (touches_tally (with_own names g) g) names (first_free names g rest none) sees) (other-functions names g rest none) k f e)
+    (numbered_from all (fs ++ g ∷ []) rest (with_function names g) (split_on fs rest g all split) (sees_more fs g (touches_tally (with_own names g) g) names (first_free names g rest none) sees)
+    (other-functions names g rest none) k f e)
 
 numbered : (p : Program) → IsAccepted p → (k : ℕ) (f : Function) → slice_get p.functions k ≡ Some f → Numbered p.functions k f
 numbered p accepted k f e =
@@ -142,7 +147,8 @@ module _ (p : Program) where
       ∙ kinds_twice g.params
 
   -- a function that stands behind these, and whose name none of them has
-  function_is : (fs rest : List Function) (g : Function) (touches : Bool) (visible : ℕ) (t : Text) → p.functions ≡ fs ++ g ∷ rest → function_named fs t ≡ None → t ≡ g.name.text → length g.params ≤ most_params → length fs < visible
+  function_is : (fs rest : List Function) (g : Function) (touches : Bool) (visible : ℕ) (t : Text) → p.functions ≡ fs ++ g ∷ rest → function_named fs t ≡ None → t ≡ g.name.text
+      → length g.params ≤ most_params → length fs < visible
       → FunctionIs p (module_of p) visible t (signature g touches)
   function_is fs rest g touches visible t split none is few less =
       let number : function_number p.functions t ≡ length fs = ap (λ (l : List Function). function_number l t) split ∙ own_number fs rest g t none is in
@@ -150,7 +156,8 @@ module _ (p : Program) where
       let long = length-map g.params (λ q. q.ty) in
       record {
         code = function_code p g;
-        there = ap (λ (n : ℕ). slice_get (map (λ f. function_code p f) p.functions) n) number ∙ ap (λ (l : List Function). slice_get (map (λ f. function_code p f) l) (length fs)) split ∙ code_there fs rest g;
+        there = ap (λ (n : ℕ). slice_get (map (λ f. function_code p f) p.functions) n) number ∙ ap (λ (l : List Function). slice_get (map (λ f. function_code p f) l) (length fs)) split
+            ∙ code_there fs rest g;
         params = params_kinds g;
         gives = refl;
         given = ap given_by named;
@@ -164,7 +171,8 @@ module _ (p : Program) where
     sees : Sees fs names
 
   -- with one function more
-  before_more : (fs rest : List Function) (g : Function) (touches : Bool) (names : Names) → p.functions ≡ fs ++ g ∷ rest → taken names g.name ≡ [] → length g.params ≤ most_params → Before fs names → Before (fs ++ g ∷ []) (declare names g.name (as_declared g touches))
+  before_more : (fs rest : List Function) (g : Function) (touches : Bool) (names : Names) → p.functions ≡ fs ++ g ∷ rest → taken names g.name ≡ [] → length g.params ≤ most_params → Before fs names
+      → Before (fs ++ g ∷ []) (declare names g.name (as_declared g touches))
   before_more fs rest g touches names split free few before = record { agrees = told; sees = sees_more fs g touches names free before.sees }
     where
       told : (c : Code) (visible : ℕ) → length (fs ++ g ∷ []) ≤ visible → Agrees p (module_of p) c visible (declare names g.name (as_declared g touches)) []
@@ -175,7 +183,8 @@ module _ (p : Program) where
           subst (λ (o : Option Declaration). Means p (module_of p) c visible [] t o) (sym (found_declared names g.name (as_declared g touches) t free))
           (by less (lookup (bytes_eq t) names) (bytes_eq t g.name.text) refl refl (before.agrees c visible still t))
         where
-          by : length fs < visible → (o : Option Declaration) (b : Bool) → lookup (bytes_eq t) names ≡ o → bytes_eq t g.name.text ≡ b → Means p (module_of p) c visible [] t o → Means p (module_of p) c visible [] t (found_in o b (as_declared g touches))
+          by : length fs < visible → (o : Option Declaration) (b : Bool) → lookup (bytes_eq t) names ≡ o → bytes_eq t g.name.text ≡ b → Means p (module_of p) c visible [] t o
+              → Means p (module_of p) c visible [] t (found_in o b (as_declared g touches))
           by less None true is e h = (refl, function_is fs rest g touches visible t split (before.sees t is) (bytes_same t g.name.text e) few less)
           by less None false is e h = h
           by less (Some d) b is e h = h
@@ -195,11 +204,13 @@ module _ (p : Program) where
       record { names = with_own names g; agrees = λ c. more.agrees c (length fs + 1) le; clean = clean }
 
   -- behind one function
-  before_next : (fs rest : List Function) (g : Function) (names : Names) → p.functions ≡ fs ++ g ∷ rest → Before fs names → all_function_faults names (g ∷ rest) ≡ [] → Before (fs ++ g ∷ []) (with_function names g)
+  before_next : (fs rest : List Function) (g : Function) (names : Names) → p.functions ≡ fs ++ g ∷ rest → Before fs names → all_function_faults names (g ∷ rest) ≡ []
+      → Before (fs ++ g ∷ []) (with_function names g)
   before_next fs rest g names split before none =
       before_more fs rest g (touches_tally (with_own names g) g) names split (first_free names g rest none) (function-params (with_own names g) g (first-function names g rest none)) before
 
-  inside_from : (fs rest : List Function) (names : Names) → p.functions ≡ fs ++ rest → Before fs names → all_function_faults names rest ≡ [] → (k : ℕ) (f : Function) → slice_get rest k ≡ Some f → Inside (length fs + k) f
+  inside_from : (fs rest : List Function) (names : Names) → p.functions ≡ fs ++ rest → Before fs names → all_function_faults names rest ≡ [] → (k : ℕ) (f : Function) → slice_get rest k ≡ Some f
+      → Inside (length fs + k) f
   inside_from fs [] names split before none k f e = absurd cc
   inside_from fs (g ∷ rest) names split before none zero f e =
       let same : g ≡ f = cc in
@@ -216,7 +227,8 @@ module _ (p : Program) where
       before_main (fs ++ g ∷ []) rest (with_function names g) (split_on fs rest g p.functions split) (before_next fs rest g names split before none) (other-functions names g rest none)
 
   -- parameters in the first slots
-  pub params_agree : (c : Code) (visible : ℕ) (names : Names) (slots : Slots) (qs : List Param) → Agrees p (module_of p) c visible names slots → param_faults names qs ≡ [] → Stand c.locals (length slots) (map (λ q. kind_of q.ty) qs)
+  pub params_agree : (c : Code) (visible : ℕ) (names : Names) (slots : Slots) (qs : List Param) → Agrees p (module_of p) c visible names slots → param_faults names qs ≡ []
+      → Stand c.locals (length slots) (map (λ q. kind_of q.ty) qs)
       → Agrees p (module_of p) c visible (with_params names qs) (code.with_params slots qs)
   params_agree c visible names slots [] agrees none there = agrees
   params_agree c visible names slots (q ∷ qs) agrees none there =

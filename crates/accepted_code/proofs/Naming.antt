@@ -1,5 +1,6 @@
 -- A declaration without a fault keeps the names of the checks and the slots of the code in agreement.
-use Rattle.std.proofs.Common.{◌≡◌, ℕ, zero, suc, ◌+◌, ◌<◌, Bool, true, false, if◌then◌else◌, List, [], ◌∷◌, ◌++◌, length, Option, Some, None, refl, sym, ap, ◌∙◌, subst, arith, append_assoc, length-append}
+use Rattle.std.proofs.Common.{◌≡◌, ℕ, zero, suc, ◌+◌, ◌<◌, Bool, true, false, if◌then◌else◌, List, [], ◌∷◌, ◌++◌, length, Option, Some, None, refl, sym, ap, ◌∙◌, subst, arith, append_assoc}
+use Rattle.std.proofs.Common.{length-append}
 use Rattle.std.specs.Prelude.{is_some, slice_get}
 use Rattle.std.specs.Str.{bytes_eq}
 use Rattle.std.specs.Map.{lookup}
@@ -72,7 +73,8 @@ abbrev pub slot_at : Text → ℕ → Ty → Slot
 slot_at name number kind = record { name = name; number = number; kind = kind }
 
 -- a slot is found behind others, if none of them has its name
-pub slot_behind : (slots : Slots) (name other : Text) (number : ℕ) (kind : Ty) → slot_of (with_slot slots other number kind) name ≡ found_in (slot_of slots name) (bytes_eq other name) (slot_at other number kind)
+pub slot_behind : (slots : Slots) (name other : Text) (number : ℕ) (kind : Ty) → slot_of (with_slot slots other number kind) name ≡ found_in (slot_of slots name) (bytes_eq other name)
+    (slot_at other number kind)
 slot_behind [] name other number kind = by (bytes_eq other name)
   where
     by : (b : Bool) → (if b then Some (slot_at other number kind) else None) ≡ found_in None b (slot_at other number kind)
@@ -98,7 +100,8 @@ pub declared_last : (names : Names) (name : Name) (d : Declaration) → taken na
 declared_last names name d e = ap (λ (b : Bool). if b then names else names ++ (name.text, d) ∷ []) (none_if (is_some (meant names name)) NameTaken name.at e)
 
 -- and a name after it is found among the others, or is its own
-pub found_declared : (names : Names) (name : Name) (d : Declaration) (t : Text) → taken names name ≡ [] → lookup (bytes_eq t) (declare names name d) ≡ found_in (lookup (bytes_eq t) names) (bytes_eq t name.text) d
+pub found_declared : (names : Names) (name : Name) (d : Declaration) (t : Text) → taken names name ≡ []
+    → lookup (bytes_eq t) (declare names name d) ≡ found_in (lookup (bytes_eq t) names) (bytes_eq t name.text) d
 found_declared names name d t e = ap (λ (l : Names). lookup (bytes_eq t) l) (declared_last names name d e) ∙ found_behind names t name.text d
 
 -- a visible name is another one than one that is not visible
@@ -139,7 +142,8 @@ module _ (p : Program) (m : Module) (c : Code) (visible : ℕ) where
           none None = refl
           none (Some s) = refl
 
-      by : (o : Option Declaration) (b : Bool) → lookup (bytes_eq t) names ≡ o → bytes_eq t name.text ≡ b → Means p m c visible slots t o → Means p m c visible (with_slot slots name.text number (kind_of ty)) t (found_in o b (declared.Local ty))
+      by : (o : Option Declaration) (b : Bool) → lookup (bytes_eq t) names ≡ o → bytes_eq t name.text ≡ b → Means p m c visible slots t o
+          → Means p m c visible (with_slot slots name.text number (kind_of ty)) t (found_in o b (declared.Local ty))
       by None true is e h = record { slot = own; found = old true e ∙ ap (λ (o : Option Slot). found_in o true own) h; right = refl; local = there }
       by None false is e h = unchanged e ∙ h
       by (Some d) b is e h = means_same slots (with_slot slots name.text number (kind_of ty)) t (Some d) (unchanged (is_other names name.text t d (not_taken names name free) is)) h
@@ -148,15 +152,18 @@ module _ (p : Program) (m : Module) (c : Code) (visible : ℕ) where
     -- after a statement without faults, whose local has its slot
     pub after_agrees : (names : Names) (slots : Slots) (at slot : ℕ) (f : Form) → Agrees p m c visible names slots → faults globals here names at f ≡ [] → Stand c.locals slot (kinds_in f)
         → Agrees p m c visible (after names f) (slots_after slots slot f)
-    after_agrees names slots at slot (Declare ty name e) agrees none there = agrees_local names slots name ty slot agrees (none_in_second (value_faults here.body names (of_ty ty) e) (taken names name) none) there.0
+    after_agrees names slots at slot (Declare ty name e) agrees none there = agrees_local names slots name ty slot agrees
+        (none_in_second (value_faults here.body names (of_ty ty) e) (taken names name) none) there.0
     after_agrees names slots at slot _ agrees none there = agrees
 
     -- after statements without faults
-    pub after_row_agrees : {n : _} (names : Names) (slots : Slots) (slot : ℕ) (row : Row_of-Stmt n) → Agrees p m c visible names slots → row_faults globals here names row ≡ [] → Stand c.locals slot (kinds_in_row row)
+    pub after_row_agrees : {n : _} (names : Names) (slots : Slots) (slot : ℕ) (row : Row_of-Stmt n) → Agrees p m c visible names slots → row_faults globals here names row ≡ []
+        → Stand c.locals slot (kinds_in_row row)
         → Agrees p m c visible (after_row names row) (slots_after_row slots slot row)
     after_row_agrees names slots slot end_of-Stmt agrees none there = agrees
     after_row_agrees names slots slot (more_of-Stmt at f rest) agrees none there =
         after_row_agrees (after names f) (slots_after slots slot f) (slot + length (kinds_in f)) rest
-        (after_agrees names slots at slot f agrees (none_in_first (faults globals here names at f) (row_faults globals here (after names f) rest) none) (stand_front c.locals slot (kinds_in f) (kinds_in_row rest) there))
+        (after_agrees names slots at slot f agrees (none_in_first (faults globals here names at f) (row_faults globals here (after names f) rest) none)
+        (stand_front c.locals slot (kinds_in f) (kinds_in_row rest) there))
         (none_in_second (faults globals here names at f) (row_faults globals here (after names f) rest) none)
         (stand_back c.locals slot (kinds_in f) (kinds_in_row rest) there)

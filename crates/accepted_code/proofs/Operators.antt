@@ -73,7 +73,8 @@ module _ (m : Module) (c : Code) (taken : Taken) (Ok : Instr → Type 0) (visibl
     pub starts : (at : ℕ) (ks : Kinds) → Held taken at (kinds ks) → KindsAt taken at ks
     pub right : (at : ℕ) (ks : Kinds) → length ks ≤ most → Held c.instrs at (code at) → Held taken at (kinds ks) → KindsAt taken (at + n) (kind ∷ ks) → Right m c taken Ok at (code at)
 
-  module _ (n k most : ℕ) (a b : Ty) (left right : ℕ → List Instr) (lt rt : Kinds → Taken) (one : Operand n left lt a most) (two : Operand k right rt b (most + 1)) (at : ℕ) (ks : Kinds) (short : length ks ≤ most) (few : most + 2 ≤ most_operands) where
+  module _ (n k most : ℕ) (a b : Ty) (left right : ℕ → List Instr) (lt rt : Kinds → Taken) (one : Operand n left lt a most) (two : Operand k right rt b (most + 1)) (at : ℕ) (ks : Kinds)
+      (short : length ks ≤ most) (few : most + 2 ≤ most_operands) where
     strict_right : (op : BinaryOp) → IsStrict op → OperandsFit op a b
         → Held c.instrs at (left at ++ right (at + n) ++ binary_instr op ∷ []) → Held taken at (lt ks ++ rt (a ∷ ks) ++ (b ∷ a ∷ ks) ∷ []) → KindsAt taken (at + (n + k + 1)) (binary_kind op ∷ ks)
         → Right m c taken Ok at (left at ++ right (at + n) ++ binary_instr op ∷ [])
@@ -119,12 +120,15 @@ module _ (m : Module) (c : Code) (taken : Taken) (Ok : Instr → Type 0) (visibl
         let end_at : KindsAt taken out (ty.Bool ∷ ks) = at_end taken (ty.Bool ∷ ks) (at + (n + k + 3)) out (omega arith) end in
         let behind_false : KindsAt taken (no + 1) (ty.Bool ∷ ks) = at_end taken (ty.Bool ∷ ks) out (no + 1) (omega arith) end_at in
         let begins = two.starts (at + n + 1) ks tr.1 in
-        let branch = branches m c taken Ok (at + n) no ks hr.0 test (inside m c taken Ok long no ks false_at) (omega arith) (omega (arith, short, few)) (permits.branches no (inside m c taken Ok long no ks false_at)) false_at begins in
-        let leap = jumps m c taken Ok (at + n + 1 + k) out (ty.Bool ∷ ks) left_over (inside m c taken Ok long out (ty.Bool ∷ ks) end_at) (omega arith) (omega (arith, short, few)) (permits.jumps out (inside m c taken Ok long out (ty.Bool ∷ ks) end_at)) end_at
+        let branch = branches m c taken Ok (at + n) no ks hr.0 test (inside m c taken Ok long no ks false_at) (omega arith) (omega (arith, short, few))
+        (permits.branches no (inside m c taken Ok long no ks false_at)) false_at begins in
+        let leap = jumps m c taken Ok (at + n + 1 + k) out (ty.Bool ∷ ks) left_over (inside m c taken Ok long out (ty.Bool ∷ ks) end_at) (omega arith) (omega (arith, short, few))
+        (permits.jumps out (inside m c taken Ok long out (ty.Bool ∷ ks) end_at)) end_at
         (λ lt none. absurd (branch_comes m c taken Ok (at + n) no (at + n + 1 + k + 1) ks hr.0 test refl none)) in
         let no_value = falls m c taken Ok no i.False ks (ty.Bool ∷ ks) tt h2.1.0 false_at tt refl (omega (arith, short, few)) (permits.plain i.False tt) behind_false in
         join m c taken Ok at (at + n + 1 + k) front (i.Jump out ∷ i.False ∷ []) (omega (arith, l, l1, l2))
-        (join m c taken Ok at (at + n) (left at) (i.Branch no ∷ right (at + n + 1)) (omega (arith, l1)) (one.right at ks short (in_front c.instrs at (left at) _ h1) (in_front taken at (lt ks) _ t1) tr.0)
+        (join m c taken Ok at (at + n) (left at) (i.Branch no ∷ right (at + n + 1)) (omega (arith, l1))
+        (one.right at ks short (in_front c.instrs at (left at) _ h1) (in_front taken at (lt ks) _ t1) tr.0)
         (branch, two.right (at + n + 1) ks (omega (arith, short)) hr.1 tr.1 t2.0))
         (leap, (no_value, tt))
 
@@ -147,13 +151,16 @@ module _ (m : Module) (c : Code) (taken : Taken) (Ok : Instr → Type 0) (visibl
         let begins = two.starts other ks held_kinds in
         let end_at : KindsAt taken out (ty.Bool ∷ ks) = at_end taken (ty.Bool ∷ ks) (at + (n + k + 3)) out (omega arith) end in
         let end_b : KindsAt taken out (b ∷ ks) = subst (λ (x : Ty). KindsAt taken out (x ∷ ks)) (sym eb) end_at in
-        let branch = branches m c taken Ok (at + n) other ks hr.0 test (inside m c taken Ok long other ks begins) (omega arith) (omega (arith, short, few)) (permits.branches other (inside m c taken Ok long other ks begins)) begins tr.1.0 in
+        let branch = branches m c taken Ok (at + n) other ks hr.0 test (inside m c taken Ok long other ks begins) (omega arith) (omega (arith, short, few))
+        (permits.branches other (inside m c taken Ok long other ks begins)) begins tr.1.0 in
         let yes_value = falls m c taken Ok (at + n + 1) i.True ks (ty.Bool ∷ ks) tt hr.1.0 tr.1.0 tt refl (omega (arith, short, few)) (permits.plain i.True tt) tr.1.1.0 in
-        let leap = jumps m c taken Ok (at + n + 1 + 1) out (ty.Bool ∷ ks) tr.1.1.0 (inside m c taken Ok long out (ty.Bool ∷ ks) end_at) (omega arith) (omega (arith, short, few)) (permits.jumps out (inside m c taken Ok long out (ty.Bool ∷ ks) end_at)) end_at
+        let leap = jumps m c taken Ok (at + n + 1 + 1) out (ty.Bool ∷ ks) tr.1.1.0 (inside m c taken Ok long out (ty.Bool ∷ ks) end_at) (omega arith) (omega (arith, short, few))
+        (permits.jumps out (inside m c taken Ok long out (ty.Bool ∷ ks) end_at)) end_at
         (λ lt none. absurd (branch_comes m c taken Ok (at + n) other (at + n + 1 + 1 + 1) ks hr.0 test (omega arith) none)) in
         let last = two.right other ks (omega (arith, short)) held_right held_kinds end_b in
         let last' : Right m c taken Ok (at + n + 1 + 1 + 1) (right other) = subst (λ (x : ℕ). Right m c taken Ok x (right other)) (sym third) last in
-        join m c taken Ok at (at + n) (left at) rest (omega (arith, l1)) (one.right at ks short (in_front c.instrs at (left at) _ h) (in_front taken at (lt ks) _ t) tr.0) (branch, (yes_value, (leap, last')))
+        join m c taken Ok at (at + n) (left at) rest (omega (arith, l1)) (one.right at ks short (in_front c.instrs at (left at) _ h) (in_front taken at (lt ks) _ t) tr.0)
+        (branch, (yes_value, (leap, last')))
 
     pub binary_right : (op : BinaryOp) → OperandsFit op a b
         → Held c.instrs at (binary_code op at n k (left at) right) → Held taken at (binary_taken op ks a b (lt ks) rt) → KindsAt taken (at + (n + k + operator_size op)) (binary_kind op ∷ ks)

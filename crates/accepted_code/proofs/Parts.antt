@@ -16,7 +16,8 @@ use Rattle.csl_tree.specs.declared.program.RoutineBlock.{RoutineBlock}
 use Rattle.csl_tree.specs.declared.program.Form.TheVariants as variant
 use Rattle.csl_tree.specs.declared.program.Form.TheBlock.{hidden-the_row-Stmt-1}
 use Rattle.csl_grammar.specs.Levels.{Stays, outermost}
-use Rattle.csl_grammar.specs.Programs.{Each, stop, again, MoreOf, no_more, more, ListOf, nothing, something, SpellsBlock, SpellsValue, plain, minus, SpellsInitial, unlisted, listed, SpellsShared, scalar, array, tally, SpellsParam, param, SpellsFunction, function, SpellsProgram, program}
+use Rattle.csl_grammar.specs.Programs.{Each, stop, again, MoreOf, no_more, more, ListOf, nothing, something, SpellsBlock, SpellsValue, plain, minus, SpellsInitial, unlisted, listed, SpellsShared}
+use Rattle.csl_grammar.specs.Programs.{scalar, array, tally, SpellsParam, param, SpellsFunction, function, SpellsProgram, program}
 use Rattle.csl_grammar.specs.Texts.{IsSpelledWithin, text_limit}
 use Rattle.bytecode.specs.Spelling.{FitsZig}
 use Rattle.compiled_code.specs.Slots.{Slots}
@@ -61,23 +62,28 @@ pub record SpelledProgram (p : Program) : Type 0 where
 
 -- ---- lists of parts
 
-each_counted : {T : Type 0} {spells : List Token → List Token → T → Type 0} {tokens rest : List Token} {xs : List T} → ((ts after : List Token) (x : T) → spells ts after x → length after ≤ length ts) → Each spells tokens rest xs → length rest ≤ length tokens
+each_counted : {T : Type 0} {spells : List Token → List Token → T → Type 0} {tokens rest : List Token} {xs : List T} → ((ts after : List Token) (x : T) → spells ts after x → length after ≤ length ts)
+    → Each spells tokens rest xs → length rest ≤ length tokens
 each_counted h stop = omega arith
 each_counted h (again {tokens = tokens} {middle = middle} {x = x} d m) = omega (arith, h tokens middle x d, each_counted h m)
 
-more_counted : {T : Type 0} {spells : List Token → List Token → T → Type 0} {tokens rest : List Token} {xs : List T} → ((ts after : List Token) (x : T) → spells ts after x → length after ≤ length ts) → MoreOf spells tokens rest xs → length rest ≤ length tokens
+more_counted : {T : Type 0} {spells : List Token → List Token → T → Type 0} {tokens rest : List Token} {xs : List T} → ((ts after : List Token) (x : T) → spells ts after x → length after ≤ length ts)
+    → MoreOf spells tokens rest xs → length rest ≤ length tokens
 more_counted h no_more = omega arith
 more_counted h (more {tokens = tokens} {middle = middle} {x = x} k d m) = omega (arith, h tokens middle x d, more_counted h m)
 
-list_counted : {T : Type 0} {spells : List Token → List Token → T → Type 0} {tokens rest : List Token} {xs : List T} → ((ts after : List Token) (x : T) → spells ts after x → length after ≤ length ts) → ListOf spells tokens rest xs → length rest ≤ length tokens
+list_counted : {T : Type 0} {spells : List Token → List Token → T → Type 0} {tokens rest : List Token} {xs : List T} → ((ts after : List Token) (x : T) → spells ts after x → length after ≤ length ts)
+    → ListOf spells tokens rest xs → length rest ≤ length tokens
 list_counted h nothing = omega arith
 list_counted h (something {tokens = tokens} {middle = middle} {x = x} d m) = omega (arith, h tokens middle x d, more_counted h m)
 
-more_onward : {T : Type 0} {spells : List Token → List Token → T → Type 0} {tokens rest : List Token} {xs : List T} {limit : ℕ} → ((ts after : List Token) (x : T) → spells ts after x → Onward limit ts → Onward limit after) → MoreOf spells tokens rest xs → Onward limit tokens → Onward limit rest
+more_onward : {T : Type 0} {spells : List Token → List Token → T → Type 0} {tokens rest : List Token} {xs : List T} {limit : ℕ}
+    → ((ts after : List Token) (x : T) → spells ts after x → Onward limit ts → Onward limit after) → MoreOf spells tokens rest xs → Onward limit tokens → Onward limit rest
 more_onward h no_more o = o
 more_onward h (more {tokens = tokens} {middle = middle} {x = x} k d m) o = more_onward h m (h tokens middle x d (onward o))
 
-list_onward : {T : Type 0} {spells : List Token → List Token → T → Type 0} {tokens rest : List Token} {xs : List T} {limit : ℕ} → ((ts after : List Token) (x : T) → spells ts after x → Onward limit ts → Onward limit after) → ListOf spells tokens rest xs → Onward limit tokens → Onward limit rest
+list_onward : {T : Type 0} {spells : List Token → List Token → T → Type 0} {tokens rest : List Token} {xs : List T} {limit : ℕ}
+    → ((ts after : List Token) (x : T) → spells ts after x → Onward limit ts → Onward limit after) → ListOf spells tokens rest xs → Onward limit tokens → Onward limit rest
 list_onward h nothing o = o
 list_onward h (something {tokens = tokens} {middle = middle} {x = x} d m) o = more_onward h m (h tokens middle x d o)
 
@@ -123,7 +129,8 @@ module _ (limit : ℕ) where
       let others : _ × _ = more_values_stand m one.1 in
       ((one.0, others.0), others.1)
 
-  initial_stands : {tokens rest : List Token} {b : _} {vs : List Valued} → SpellsInitial tokens rest b vs → Onward limit tokens → AllByRecursion (λ (v : Valued). FitsZig v.number) vs × Onward limit rest
+  initial_stands : {tokens rest : List Token} {b : _} {vs : List Valued} → SpellsInitial tokens rest b vs → Onward limit tokens
+      → AllByRecursion (λ (v : Valued). FitsZig v.number) vs × Onward limit rest
   initial_stands unlisted o = (tt, o)
   initial_stands (listed e b d c) o = let all : _ × _ = values_stand d (onward (onward o)) in (all.0, onward all.1)
 
@@ -134,7 +141,8 @@ module _ (limit : ℕ) where
       (λ size e. refl, all.0, onward all.1)
   shared_stands (tally w i n k) o = (λ size e. absurd cc, tt, onward (onward (onward (onward o))))
 
-  all_shared_stand : {tokens rest : List Token} {shared : List Shared} → Each SpellsShared tokens rest shared → Onward limit tokens → ArraysArePlain shared × AllByRecursion ValuesFit shared × Onward limit rest
+  all_shared_stand : {tokens rest : List Token} {shared : List Shared} → Each SpellsShared tokens rest shared → Onward limit tokens
+      → ArraysArePlain shared × AllByRecursion ValuesFit shared × Onward limit rest
   all_shared_stand stop o = (tt, tt, o)
   all_shared_stand (again d m) o =
       let one : _ × _ × _ = shared_stands d o in
@@ -156,18 +164,20 @@ module _ (p : Program) where
   -- a body that is spelled by some of the tokens
   body_fits : {tokens rest : List Token} {body : List Stmt} → SpellsBlock tokens rest body → Onward text_limit tokens → length tokens ≤ text_limit + 1 → BodyFits p body
   body_fits {body = body} d o few =
-      let all : _ × _ = block_stands text_limit d o in
-      (all.0.0,
-      λ slots slot. omega (arith, few, block_counted d, row_bounded p (hidden-the_row-Stmt-1 body) slots slot),
-      omega (arith, few, block_counted d, row_texts_bounded (hidden-the_row-Stmt-1 body)),
-      omega (arith, few, block_counted d, row_steps_bounded (hidden-the_row-Stmt-1 body)))
+      let all : _ × _ = block_stands text_limit d o in (
+        all.0.0,
+        λ slots slot. omega (arith, few, block_counted d, row_bounded p (hidden-the_row-Stmt-1 body) slots slot),
+        omega (arith, few, block_counted d, row_texts_bounded (hidden-the_row-Stmt-1 body)),
+        omega (arith, few, block_counted d, row_steps_bounded (hidden-the_row-Stmt-1 body)),
+      )
 
   function_fits : {tokens rest : List Token} {f : Function} → SpellsFunction tokens rest f → Onward text_limit tokens → length tokens ≤ text_limit + 1 → BodyFits p f.body × Onward text_limit rest
   function_fits (function w n k q c b) o few =
       let inner : Onward text_limit _ = onward (list_onward param_onward q (onward (onward (onward o)))) in
       (body_fits b inner (omega (arith, few, list_counted param_counted q)), (block_stands text_limit b inner).1)
 
-  functions_fit : {tokens rest : List Token} {fs : List Function} → Each SpellsFunction tokens rest fs → Onward text_limit tokens → length tokens ≤ text_limit + 1 → AllByRecursion (λ (f : Function). BodyFits p f.body) fs × Onward text_limit rest
+  functions_fit : {tokens rest : List Token} {fs : List Function} → Each SpellsFunction tokens rest fs → Onward text_limit tokens → length tokens ≤ text_limit + 1
+      → AllByRecursion (λ (f : Function). BodyFits p f.body) fs × Onward text_limit rest
   functions_fit stop o few = (tt, o)
   functions_fit (again {tokens = tokens} {middle = middle} {x = x} d m) o few =
       let one : _ × _ = function_fits d o few in

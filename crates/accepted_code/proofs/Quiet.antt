@@ -19,7 +19,8 @@ use Rattle.csl_tree.specs.declared.program.Node.{Node, Number, Truth, Read, Call
 use Rattle.csl_tree.specs.declared.program.Place.{Place, Place', None', Some'}
 use Rattle.csl_tree.specs.declared.program.Call.{Call, Call'}
 use Rattle.csl_tree.specs.declared.program.Arm.{Arm'}
-use Rattle.csl_tree.specs.declared.program.Form.{Form, Declare, Set, AddTo, If', While', For', Break, Continue, Return, Assert, Block', Print, Par', Row_of-Arm, end_of-Arm, more_of-Arm, Row_of-Stmt, end_of-Stmt, more_of-Stmt, Held-Form-If-1}
+use Rattle.csl_tree.specs.declared.program.Form.{Form, Declare, Set, AddTo, If', While', For', Break, Continue, Return, Assert, Block', Print, Par', Row_of-Arm, end_of-Arm, more_of-Arm, Row_of-Stmt}
+use Rattle.csl_tree.specs.declared.program.Form.{end_of-Stmt, more_of-Stmt, Held-Form-If-1}
 use Rattle.csl_tree.specs.declared.program.Form as form
 use Rattle.csl_meaning.specs.declared.state.Area.{Area}
 use Rattle.csl_meaning.specs.Layout.{Text, area_of}
@@ -96,7 +97,8 @@ slot_behind [] s t e = (refl, by (bytes_eq s.name t) e)
     by false h = refl
 slot_behind (x ∷ slots) s t e = by (bytes_eq x.name t) e (slot_behind slots s t)
   where
-    by : (b : Bool) → (if b then Some x else slot_of (slots ++ s ∷ []) t) ≡ None → (slot_of (slots ++ s ∷ []) t ≡ None → (slot_of slots t ≡ None) × (bytes_eq s.name t ≡ false)) → ((if b then Some x else slot_of slots t) ≡ None) × (bytes_eq s.name t ≡ false)
+    by : (b : Bool) → (if b then Some x else slot_of (slots ++ s ∷ []) t) ≡ None → (slot_of (slots ++ s ∷ []) t ≡ None → (slot_of slots t ≡ None) × (bytes_eq s.name t ≡ false))
+        → ((if b then Some x else slot_of slots t) ≡ None) × (bytes_eq s.name t ≡ false)
     by true h go = absurd (never h)
       where
         never : Some x ≡ None → ⊥
@@ -182,7 +184,8 @@ module _ (p : Program) (m : Module) (calm : ℕ → Type 0) where
   covered_still slots s t (Some (declared.Function d)) h = h
 
   -- after the declaration of a local
-  pub covers_local : (names : Names) (slots : Slots) (name : Name) (ty : Ty) (number : ℕ) (kind : Ty) → Covers names slots → Covers (declare names name (declared.Local ty)) (with_slot slots name.text number kind)
+  pub covers_local : (names : Names) (slots : Slots) (name : Name) (ty : Ty) (number : ℕ) (kind : Ty) → Covers names slots
+      → Covers (declare names name (declared.Local ty)) (with_slot slots name.text number kind)
   covers_local names slots name ty number kind covers t = by (is_some (meant names name))
     where
       clash : bytes_eq name.text t ≡ true → bytes_eq name.text t ≡ false → ⊥
@@ -202,7 +205,8 @@ module _ (p : Program) (m : Module) (calm : ℕ → Type 0) where
   -- after the parameters of a function
   pub covers_params : (qs : List Param) (names : Names) (slots : Slots) → Covers names slots → Covers (checked.with_params names qs) (with_params slots qs)
   covers_params [] names slots covers = covers
-  covers_params (q ∷ qs) names slots covers = covers_params qs (declare names q.name (declared.Local q.ty)) (with_slot slots q.name.text _ (kind_of q.ty)) (covers_local names slots q.name q.ty _ (kind_of q.ty) covers)
+  covers_params (q ∷ qs) names slots covers = covers_params qs (declare names q.name (declared.Local q.ty)) (with_slot slots q.name.text _ (kind_of q.ty))
+      (covers_local names slots q.name q.ty _ (kind_of q.ty) covers)
 
   -- after a statement
   covers_after : (names : Names) (slots : Slots) (slot : ℕ) (f : Form) → Covers names slots → Covers (after names f) (slots_after slots slot f)
@@ -275,7 +279,8 @@ module _ (p : Program) (m : Module) (calm : ℕ → Type 0) where
   store_quiet slots name o (Some s) is covered used tally = tt
   store_quiet slots name o None is covered used tally = no_tally slots name o covered is used tally
 
-  called_quiet : (slots : Slots) (name : Name) (o : Option Declaration) → Covered slots name.text o → use_faults name o (as_call o) ≡ [] → NoneUsed (tally_faults Routine name (call_touches o)) → calm (function_number p.functions name.text)
+  called_quiet : (slots : Slots) (name : Name) (o : Option Declaration) → Covered slots name.text o → use_faults name o (as_call o) ≡ [] → NoneUsed (tally_faults Routine name (call_touches o))
+      → calm (function_number p.functions name.text)
   called_quiet slots name None covered used tally = absurd cc
   called_quiet slots name (Some declared.Word) covered used tally = absurd cc
   called_quiet slots name (Some declared.Tally) covered used tally = absurd cc
@@ -293,7 +298,8 @@ module _ (p : Program) (m : Module) (calm : ℕ → Type 0) where
       value_quiet (Truth x) at e u = one _ (truth_quiet x)
       value_quiet (Read place) at e u = read_quiet place at (none_in_first (place_faults b names place) (place_tally b names place) e) u
       value_quiet (CallOf call) at e u = call_quiet call at e u
-      value_quiet (Unary' op shape a) at e u = joined (boxed_code p slots a at) (unary_instr op ∷ []) (boxed_quiet a at (none_in_first (boxed_faults b names a) _ e) (unused_first (boxed_faults Routine names a) _ u)) (one _ (unary_quiet op))
+      value_quiet (Unary' op shape a) at e u = joined (boxed_code p slots a at) (unary_instr op ∷ [])
+          (boxed_quiet a at (none_in_first (boxed_faults b names a) _ e) (unused_first (boxed_faults Routine names a) _ u)) (one _ (unary_quiet op))
       value_quiet (Binary' op shape a shape' c) at e u =
           let own = none_in_first (boxed_faults b names a ++ boxed_faults b names c) _ e in
           let none = unused_first (boxed_faults Routine names a ++ boxed_faults Routine names c) _ u in
@@ -303,58 +309,72 @@ module _ (p : Program) (m : Module) (calm : ℕ → Type 0) where
       value_quiet (Paren' shape a) at e u = boxed_quiet a at e u
 
       read_quiet : (place : Place) (at : ℕ) → place_faults b names place ≡ [] → NoneUsed (place_faults Routine names place ++ place_tally Routine names place) → AreQuiet (read_code p slots place at)
-      read_quiet (Place' name None') at e u = one _ (name_quiet slots name (meant names name) (slot_of slots name.text) refl (covers name.text) e (unused_second (use_faults name (meant names name) (as_scalar (meant names name))) _ u))
-      read_quiet (Place' name (Some' shape index)) at e u = joined (boxed_code p slots index at) (_ ∷ []) (boxed_quiet index at (none_in_second _ (boxed_faults b names index) (none_in_first _ _ e)) (unused_second _ (boxed_faults Routine names index) (unused_first _ _ (unused_first (place_faults Routine names (Place' name (Some' shape index))) _ u)))) (one _ tt)
+      read_quiet (Place' name None') at e u = one _ (name_quiet slots name (meant names name) (slot_of slots name.text) refl (covers name.text) e
+          (unused_second (use_faults name (meant names name) (as_scalar (meant names name))) _ u))
+      read_quiet (Place' name (Some' shape index)) at e u = joined (boxed_code p slots index at) (_ ∷ [])
+          (boxed_quiet index at (none_in_second _ (boxed_faults b names index) (none_in_first _ _ e))
+          (unused_second _ (boxed_faults Routine names index) (unused_first _ _ (unused_first (place_faults Routine names (Place' name (Some' shape index))) _ u)))) (one _ tt)
 
       pub call_quiet : (call : Call) (at : ℕ) → call_faults b names call ≡ [] → NoneUsed (call_faults Routine names call) → AreQuiet (call_code p slots call at)
       call_quiet (Call' name shape args) at e u =
           joined (values_code p slots args at) (i.Call (function_number p.functions name.text) ∷ [])
           (values_quiet (params_of (meant names name)) args at (none_in_second _ _ e) (unused_second _ _ u))
-          (one _ (called_quiet slots name (meant names name) (covers name.text) (none_in_first _ _ (none_in_first _ _ (none_in_first _ _ e))) (unused_second _ _ (unused_first _ _ (unused_first _ _ u)))))
+          (one _ (called_quiet slots name (meant names name) (covers name.text) (none_in_first _ _ (none_in_first _ _ (none_in_first _ _ e)))
+          (unused_second _ _ (unused_first _ _ (unused_first _ _ u)))))
 
       pub boxed_quiet : {n : _} (row : Row_of-Expr n) (at : ℕ) → boxed_faults b names row ≡ [] → NoneUsed (boxed_faults Routine names row) → AreQuiet (boxed_code p slots row at)
       boxed_quiet end_of-Expr at e u = nothing
       boxed_quiet (more_of-Expr where' node rest) at e u = value_quiet node at e u
 
-      values_quiet : {n : _} (tys : List Ty) (row : Row_of-Expr n) (at : ℕ) → argument_faults b names tys row ≡ [] → NoneUsed (argument_faults Routine names tys row) → AreQuiet (values_code p slots row at)
+      values_quiet : {n : _} (tys : List Ty) (row : Row_of-Expr n) (at : ℕ) → argument_faults b names tys row ≡ [] → NoneUsed (argument_faults Routine names tys row)
+          → AreQuiet (values_code p slots row at)
       values_quiet tys end_of-Expr at e u = nothing
       values_quiet [] (more_of-Expr where' node rest) at e u =
           joined (value_code p slots node at) (values_code p slots rest _)
           (value_quiet node at (none_in_first (node_faults b names node) (argument_faults b names [] rest) e) (unused_first (node_faults Routine names node) (argument_faults Routine names [] rest) u))
-          (values_quiet [] rest _ (none_in_second (node_faults b names node) (argument_faults b names [] rest) e) (unused_second (node_faults Routine names node) (argument_faults Routine names [] rest) u))
+          (values_quiet [] rest _ (none_in_second (node_faults b names node) (argument_faults b names [] rest) e)
+          (unused_second (node_faults Routine names node) (argument_faults Routine names [] rest) u))
       values_quiet (t ∷ tys) (more_of-Expr where' node rest) at e u =
           joined (value_code p slots node at) (values_code p slots rest _)
-          (value_quiet node at (none_in_first (node_faults b names node) _ (none_in_first _ (argument_faults b names tys rest) e)) (unused_first (node_faults Routine names node) _ (unused_first _ (argument_faults Routine names tys rest) u)))
+          (value_quiet node at (none_in_first (node_faults b names node) _ (none_in_first _ (argument_faults b names tys rest) e))
+          (unused_first (node_faults Routine names node) _ (unused_first _ (argument_faults Routine names tys rest) u)))
           (values_quiet tys rest _ (none_in_second _ (argument_faults b names tys rest) e) (unused_second _ (argument_faults Routine names tys rest) u))
 
     -- the index of a place
     index_quiet : (place : Place) (at : ℕ) → place_faults b names place ≡ [] → NoneUsed (place_faults Routine names place) → AreQuiet (index_code p slots place at)
     index_quiet (Place' name None') at e u = nothing
-    index_quiet (Place' name (Some' shape index)) at e u = boxed_quiet index at (none_in_second _ (boxed_faults b names index) (none_in_first _ _ e)) (unused_second _ (boxed_faults Routine names index) (unused_first _ _ u))
+    index_quiet (Place' name (Some' shape index)) at e u = boxed_quiet index at (none_in_second _ (boxed_faults b names index) (none_in_first _ _ e))
+        (unused_second _ (boxed_faults Routine names index) (unused_first _ _ u))
 
     -- an expression of the wanted type
     wanted_quiet : (want : Typed) (e : Expr) (at : ℕ) → value_faults b names want e ≡ [] → NoneUsed (value_faults Routine names want e) → AreQuiet (code_of p slots e at)
-    wanted_quiet want e at own u = value_quiet e.node at (none_in_first (node_faults b names e.node) (wanted want (part_of names e)) own) (unused_first (node_faults Routine names e.node) (wanted want (part_of names e)) u)
+    wanted_quiet want e at own u = value_quiet e.node at (none_in_first (node_faults b names e.node) (wanted want (part_of names e)) own)
+        (unused_first (node_faults Routine names e.node) (wanted want (part_of names e)) u)
 
     -- ---- parts of statements
 
     -- an item of an array that is set or added to: its index, the value, and one instruction more
     item_quiet : (place : Place) (e : Expr) (at there : ℕ) (mine other : List Fault) (last : Instr) → place_faults b names place ++ mine ++ value_faults b names (place_type names place) e ≡ []
-        → NoneUsed (place_faults Routine names place ++ other ++ value_faults Routine names (place_type names place) e) → IsQuiet last → AreQuiet (index_code p slots place at ++ code_of p slots e there ++ last ∷ [])
+        → NoneUsed (place_faults Routine names place ++ other ++ value_faults Routine names (place_type names place) e) → IsQuiet last
+        → AreQuiet (index_code p slots place at ++ code_of p slots e there ++ last ∷ [])
     item_quiet place e at there mine other last own u quiet =
         joined (index_code p slots place at ++ code_of p slots e there) (last ∷ [])
         (joined (index_code p slots place at) (code_of p slots e there)
-        (index_quiet place at (none_in_first (place_faults b names place) mine (none_in_first (place_faults b names place ++ mine) _ own)) (unused_first (place_faults Routine names place) other (unused_first (place_faults Routine names place ++ other) _ u)))
+        (index_quiet place at (none_in_first (place_faults b names place) mine (none_in_first (place_faults b names place ++ mine) _ own))
+        (unused_first (place_faults Routine names place) other (unused_first (place_faults Routine names place ++ other) _ u)))
         (wanted_quiet (place_type names place) e there (none_in_second (place_faults b names place ++ mine) _ own) (unused_second (place_faults Routine names place ++ other) _ u)))
         (one last quiet)
 
     set_quiet : (place : Place) (e : Expr) (at : ℕ) → place_faults b names place ++ place_tally b names place ++ value_faults b names (place_type names place) e ≡ []
         → NoneUsed (place_faults Routine names place ++ place_tally Routine names place ++ value_faults Routine names (place_type names place) e) → AreQuiet (set_code p slots place e at)
     set_quiet (Place' name None') e at own u =
-        let used = none_in_first (place_faults b names (Place' name None')) (place_tally b names (Place' name None')) (none_in_first _ (value_faults b names (place_type names (Place' name None')) e) own) in
-        let tally = unused_second (place_faults Routine names (Place' name None')) (place_tally Routine names (Place' name None')) (unused_first _ (value_faults Routine names (place_type names (Place' name None')) e) u) in
+        let used = none_in_first (place_faults b names (Place' name None')) (place_tally b names (Place' name None'))
+        (none_in_first _ (value_faults b names (place_type names (Place' name None')) e) own) in
+        let tally = unused_second (place_faults Routine names (Place' name None')) (place_tally Routine names (Place' name None'))
+        (unused_first _ (value_faults Routine names (place_type names (Place' name None')) e) u) in
         joined (code_of p slots e at) (_ ∷ [])
-        (wanted_quiet (place_type names (Place' name None')) e at (none_in_second _ (value_faults b names (place_type names (Place' name None')) e) own) (unused_second _ (value_faults Routine names (place_type names (Place' name None')) e) u))
+        (wanted_quiet (place_type names (Place' name None')) e at (none_in_second _ (value_faults b names (place_type names (Place' name None')) e) own)
+        (unused_second _ (value_faults Routine names (place_type names (Place' name None')) e) u))
         (one _ (store_quiet slots name (meant names name) (slot_of slots name.text) refl (covers name.text) used tally))
     set_quiet (Place' name (Some' shape index)) e at own u = item_quiet (Place' name (Some' shape index)) e at _ [] [] _ own u tt
 
@@ -362,21 +382,26 @@ module _ (p : Program) (m : Module) (calm : ℕ → Type 0) where
         → NoneUsed (place_faults Routine names place ++ no_bool names place ++ value_faults Routine names (place_type names place) e) → AreQuiet (add_to_code p slots place e at)
     add_to_quiet (Place' name None') e at own u =
         joined (code_of p slots e at) _
-        (wanted_quiet (place_type names (Place' name None')) e at (none_in_second _ (value_faults b names (place_type names (Place' name None')) e) own) (unused_second _ (value_faults Routine names (place_type names (Place' name None')) e) u))
+        (wanted_quiet (place_type names (Place' name None')) e at (none_in_second _ (value_faults b names (place_type names (Place' name None')) e) own)
+        (unused_second _ (value_faults Routine names (place_type names (Place' name None')) e) u))
         (add_quiet (slot_of slots name.text) (value.declared (area_of p.shared name.text)))
     add_to_quiet (Place' name (Some' shape index)) e at own u = item_quiet (Place' name (Some' shape index)) e at _ [] [] _ own u tt
 
-    return_quiet : (given : Option Expr) (g : Gives) (where' at : ℕ) → return_faults b names where' g given ≡ [] → NoneUsed (return_faults Routine names where' gives.Nothing given) → AreQuiet (return_code p slots given at)
+    return_quiet : (given : Option Expr) (g : Gives) (where' at : ℕ) → return_faults b names where' g given ≡ [] → NoneUsed (return_faults Routine names where' gives.Nothing given)
+        → AreQuiet (return_code p slots given at)
     return_quiet None g where' at own u = one _ tt
     return_quiet (Some e) gives.Nothing where' at own u = absurd (never (node_faults b names e.node) own)
       where
         never : (others : List Fault) → fault WrongReturn where' ++ others ≡ [] → ⊥
         never others h = cc
-    return_quiet (Some e) gives.Int where' at own u = joined (code_of p slots e at) (i.Return ∷ []) (value_quiet e.node at (none_in_first _ _ own) (unused_second (fault WrongReturn where') (node_faults Routine names e.node) u)) (one _ tt)
-    return_quiet (Some e) gives.Bool where' at own u = joined (code_of p slots e at) (i.Return ∷ []) (value_quiet e.node at (none_in_first _ _ own) (unused_second (fault WrongReturn where') (node_faults Routine names e.node) u)) (one _ tt)
+    return_quiet (Some e) gives.Int where' at own u = joined (code_of p slots e at) (i.Return ∷ [])
+        (value_quiet e.node at (none_in_first _ _ own) (unused_second (fault WrongReturn where') (node_faults Routine names e.node) u)) (one _ tt)
+    return_quiet (Some e) gives.Bool where' at own u = joined (code_of p slots e at) (i.Return ∷ [])
+        (value_quiet e.node at (none_in_first _ _ own) (unused_second (fault WrongReturn where') (node_faults Routine names e.node) u)) (one _ tt)
 
     statement_quiet : (call : Call) (at : ℕ) → call_faults b names call ≡ [] → NoneUsed (call_faults Routine names call) → AreQuiet (statement_code p slots call at)
-    statement_quiet (Call' name shape args) at own u = joined (call_code p slots (Call' name shape args) at) (drop_code (given_by (function_named p.functions name.text))) (call_quiet (Call' name shape args) at own u) (drop_quiet (given_by (function_named p.functions name.text)))
+    statement_quiet (Call' name shape args) at own u = joined (call_code p slots (Call' name shape args) at) (drop_code (given_by (function_named p.functions name.text)))
+        (call_quiet (Call' name shape args) at own u) (drop_quiet (given_by (function_named p.functions name.text)))
 
   -- ---- statements
 
@@ -394,18 +419,23 @@ module _ (p : Program) (m : Module) (calm : ℕ → Type 0) where
       pub form_quiet : (f : Form) (looped : Bool) (names : Names) (slots : Slots) (where' : ℕ) (at : At) (exits : Exits) → Covers names slots
           → faults globals (here_in b looped) names where' f ≡ [] → NoneUsed (faults globals (here_in Routine looped) names where' f) → AreQuiet (form_code p f slots at exits)
       form_quiet (Declare ty name e) looped names slots where' at exits covers own u =
-          joined (code_of p slots e at.place) (i.Store at.slot ∷ []) (wanted_quiet b names slots covers (of_ty ty) e at.place (none_in_first _ (taken names name) own) (unused_first _ (taken names name) u)) (one _ tt)
+          joined (code_of p slots e at.place) (i.Store at.slot ∷ []) (wanted_quiet b names slots covers (of_ty ty) e at.place (none_in_first _ (taken names name) own)
+          (unused_first _ (taken names name) u)) (one _ tt)
       form_quiet (Set place e) looped names slots where' at exits covers own u = set_quiet b names slots covers place e at.place own u
       form_quiet (AddTo place e) looped names slots where' at exits covers own u = add_to_quiet b names slots covers place e at.place own u
       form_quiet (If' shape arms last) looped names slots where' at exits covers own u =
           joined (arms_code p arms slots at exits _) (last_code p last slots _ exits)
-          (arms_quiet arms looped names slots at exits _ covers (none_in_first (arm_faults globals (here_in b looped) names arms) _ own) (unused_first (arm_faults globals (here_in Routine looped) names arms) _ u))
-          (last_quiet last looped names slots _ exits covers (none_in_second (arm_faults globals (here_in b looped) names arms) _ own) (unused_second (arm_faults globals (here_in Routine looped) names arms) _ u))
+          (arms_quiet arms looped names slots at exits _ covers (none_in_first (arm_faults globals (here_in b looped) names arms) _ own)
+          (unused_first (arm_faults globals (here_in Routine looped) names arms) _ u))
+          (last_quiet last looped names slots _ exits covers (none_in_second (arm_faults globals (here_in b looped) names arms) _ own)
+          (unused_second (arm_faults globals (here_in Routine looped) names arms) _ u))
       form_quiet (While' test shape body) looped names slots where' at exits covers own u =
           joined _ (_ ∷ [])
           (joined (code_of p slots test at.place) (_ ∷ row_code p body slots _ _)
-          (wanted_quiet b names slots covers typed.Bool test at.place (none_in_first _ (row_faults globals (here_in b true) names body) own) (unused_first _ (row_faults globals (here_in Routine true) names body) u))
-          (also _ _ tt (row_quiet body true names slots _ _ covers (none_in_second _ (row_faults globals (here_in b true) names body) own) (unused_second _ (row_faults globals (here_in Routine true) names body) u))))
+          (wanted_quiet b names slots covers typed.Bool test at.place (none_in_first _ (row_faults globals (here_in b true) names body) own)
+          (unused_first _ (row_faults globals (here_in Routine true) names body) u))
+          (also _ _ tt (row_quiet body true names slots _ _ covers (none_in_second _ (row_faults globals (here_in b true) names body) own)
+          (unused_second _ (row_faults globals (here_in Routine true) names body) u))))
           (one _ tt)
       form_quiet (For' shape first test shape' next' shape'' body) looped names slots where' at exits covers own u =
           let inner = slots_after_row slots at.slot first in
@@ -419,26 +449,34 @@ module _ (p : Program) (m : Module) (calm : ℕ → Type 0) where
           (joined _ (row_code p next' inner _ exits)
           (joined _ (_ ∷ row_code p body inner _ _)
           (joined (row_code p first slots at exits) (code_of p inner test _)
-          (row_quiet first looped names slots at exits covers (none_in_first (row_faults globals (here_in b looped) names first) _ two) (unused_first (row_faults globals (here_in Routine looped) names first) _ two_u))
-          (wanted_quiet b inside inner inner_covers typed.Bool test _ (none_in_second (row_faults globals (here_in b looped) names first) _ two) (unused_second (row_faults globals (here_in Routine looped) names first) _ two_u)))
-          (also _ _ tt (row_quiet body true inside inner _ _ inner_covers (none_in_second _ (row_faults globals (here_in b true) inside body) own) (unused_second _ (row_faults globals (here_in Routine true) inside body) u))))
-          (row_quiet next' looped inside inner _ exits inner_covers (none_in_second _ (row_faults globals (here_in b looped) inside next') three) (unused_second _ (row_faults globals (here_in Routine looped) inside next') three_u)))
+          (row_quiet first looped names slots at exits covers (none_in_first (row_faults globals (here_in b looped) names first) _ two)
+          (unused_first (row_faults globals (here_in Routine looped) names first) _ two_u))
+          (wanted_quiet b inside inner inner_covers typed.Bool test _ (none_in_second (row_faults globals (here_in b looped) names first) _ two)
+          (unused_second (row_faults globals (here_in Routine looped) names first) _ two_u)))
+          (also _ _ tt (row_quiet body true inside inner _ _ inner_covers (none_in_second _ (row_faults globals (here_in b true) inside body) own)
+          (unused_second _ (row_faults globals (here_in Routine true) inside body) u))))
+          (row_quiet next' looped inside inner _ exits inner_covers (none_in_second _ (row_faults globals (here_in b looped) inside next') three)
+          (unused_second _ (row_faults globals (here_in Routine looped) inside next') three_u)))
           (one _ tt)
       form_quiet Break looped names slots where' at exits covers own u = one _ tt
       form_quiet Continue looped names slots where' at exits covers own u = one _ tt
       form_quiet (Return given) looped names slots where' at exits covers own u = return_quiet b names slots covers given (result_of b) where' at.place own u
       form_quiet (form.CallOf call) looped names slots where' at exits covers own u = statement_quiet b names slots covers call at.place own u
-      form_quiet (Assert e) looped names slots where' at exits covers own u = joined (code_of p slots e at.place) (i.Assert ∷ []) (wanted_quiet b names slots covers typed.Bool e at.place own u) (one _ tt)
+      form_quiet (Assert e) looped names slots where' at exits covers own u = joined (code_of p slots e at.place) (i.Assert ∷ []) (wanted_quiet b names slots covers typed.Bool e at.place own u)
+          (one _ tt)
       form_quiet (Block' shape body) looped names slots where' at exits covers own u = row_quiet body looped names slots at exits covers own u
-      form_quiet (Print items) looped names slots where' at exits covers own u = absurd (no_print where' (is_main b) not_main (none_in_first (fault_if (not (is_main b)) OnlyInMain where') _ (none_in_first _ (beyond most_items (map item_at items)) own)))
-      form_quiet (Par' shape blocks) looped names slots where' at exits covers own u = absurd (no_step where' (is_main b) (block_faults globals b names blocks ++ beyond most_blocks (blocks_at blocks)) not_main own)
+      form_quiet (Print items) looped names slots where' at exits covers own u = absurd (no_print where' (is_main b) not_main
+          (none_in_first (fault_if (not (is_main b)) OnlyInMain where') _ (none_in_first _ (beyond most_items (map item_at items)) own)))
+      form_quiet (Par' shape blocks) looped names slots where' at exits covers own u = absurd
+          (no_step where' (is_main b) (block_faults globals b names blocks ++ beyond most_blocks (blocks_at blocks)) not_main own)
 
       pub row_quiet : {n : _} (row : Row_of-Stmt n) (looped : Bool) (names : Names) (slots : Slots) (at : At) (exits : Exits) → Covers names slots
           → row_faults globals (here_in b looped) names row ≡ [] → NoneUsed (row_faults globals (here_in Routine looped) names row) → AreQuiet (row_code p row slots at exits)
       row_quiet end_of-Stmt looped names slots at exits covers own u = nothing
       row_quiet (more_of-Stmt where' f rest) looped names slots at exits covers own u =
           joined (form_code p f slots at exits) (row_code p rest _ _ exits)
-          (form_quiet f looped names slots where' at exits covers (none_in_first (faults globals (here_in b looped) names where' f) _ own) (unused_first (faults globals (here_in Routine looped) names where' f) _ u))
+          (form_quiet f looped names slots where' at exits covers (none_in_first (faults globals (here_in b looped) names where' f) _ own)
+          (unused_first (faults globals (here_in Routine looped) names where' f) _ u))
           (row_quiet rest looped (after names f) (slots_after slots at.slot f) _ exits (covers_after names slots at.slot f covers)
           (none_in_second (faults globals (here_in b looped) names where' f) _ own) (unused_second (faults globals (here_in Routine looped) names where' f) _ u))
 
@@ -450,9 +488,12 @@ module _ (p : Program) (m : Module) (calm : ℕ → Type 0) where
           let two_u = unused_first _ (arm_faults globals (here_in Routine looped) names rest) u in
           joined _ (_ ∷ arms_code p rest slots _ exits end)
           (joined (code_of p slots test at.place) (_ ∷ row_code p body slots _ exits)
-          (wanted_quiet b names slots covers typed.Bool test at.place (none_in_first _ (row_faults globals (here_in b looped) names body) two) (unused_first _ (row_faults globals (here_in Routine looped) names body) two_u))
-          (also _ _ tt (row_quiet body looped names slots _ exits covers (none_in_second _ (row_faults globals (here_in b looped) names body) two) (unused_second _ (row_faults globals (here_in Routine looped) names body) two_u))))
-          (also _ _ tt (arms_quiet rest looped names slots _ exits end covers (none_in_second _ (arm_faults globals (here_in b looped) names rest) own) (unused_second _ (arm_faults globals (here_in Routine looped) names rest) u)))
+          (wanted_quiet b names slots covers typed.Bool test at.place (none_in_first _ (row_faults globals (here_in b looped) names body) two)
+          (unused_first _ (row_faults globals (here_in Routine looped) names body) two_u))
+          (also _ _ tt (row_quiet body looped names slots _ exits covers (none_in_second _ (row_faults globals (here_in b looped) names body) two)
+          (unused_second _ (row_faults globals (here_in Routine looped) names body) two_u))))
+          (also _ _ tt (arms_quiet rest looped names slots _ exits end covers (none_in_second _ (arm_faults globals (here_in b looped) names rest) own)
+          (unused_second _ (arm_faults globals (here_in Routine looped) names rest) u)))
 
       last_quiet : (last : Held-Form-If-1) (looped : Bool) (names : Names) (slots : Slots) (at : At) (exits : Exits) → Covers names slots
           → last_faults globals (here_in b looped) names last ≡ [] → NoneUsed (last_faults globals (here_in Routine looped) names last) → AreQuiet (last_code p last slots at exits)

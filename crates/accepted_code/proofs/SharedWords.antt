@@ -1,5 +1,6 @@
 -- What the shared names of an accepted program stand for: words and arrays one behind the other, each of its own kind.
-use Rattle.std.proofs.Common.{◌≡◌, ℕ, zero, suc, ℤ, pos, negsuc, ◌+◌, ◌<◌, ◌≤◌, ◌⊎◌, inl, inr, Bool, true, false, if◌then◌else◌, List, [], ◌∷◌, ◌++◌, length, map, replicate, Option, Some, None, refl, sym, ap, ◌∙◌, subst, arith, length-append}
+use Rattle.std.proofs.Common.{◌≡◌, ℕ, zero, suc, ℤ, pos, negsuc, ◌+◌, ◌<◌, ◌≤◌, ◌⊎◌, inl, inr, Bool, true, false, if◌then◌else◌, List, [], ◌∷◌, ◌++◌, length, map, replicate, Option, Some, None, refl}
+use Rattle.std.proofs.Common.{sym, ap, ◌∙◌, subst, arith, length-append}
 use Rattle.std.specs.Prelude.{slice_get, is_some}
 use Rattle.std.specs.List.{Contains}
 use Rattle.std.specs.Str.{bytes_eq}
@@ -57,7 +58,8 @@ listed_word (w ∷ memory) at a h = by w.kind refl (λ h'. listed_word memory (s
     later : TallyWord (suc at) memory a → TallyWord at (w ∷ memory) a
     later t = let e = t.here in record { place = suc t.place; word = t.word; there = t.there; tally = t.tally; here = omega (arith, e) }
 
-    by : (kind : WordKind) → w.kind ≡ kind → (Contains (tallies_from (suc at) memory) a → TallyWord (suc at) memory a) → Contains (with_tally kind at (tallies_from (suc at) memory)) a → TallyWord at (w ∷ memory) a
+    by : (kind : WordKind) → w.kind ≡ kind → (Contains (tallies_from (suc at) memory) a → TallyWord (suc at) memory a) → Contains (with_tally kind at (tallies_from (suc at) memory)) a
+        → TallyWord at (w ∷ memory) a
     by Ordinary is go h' = later (go h')
     by Tally is go h' = which (listed_cases at (tallies_from (suc at) memory) a h')
       where
@@ -116,7 +118,8 @@ plain_words s at a plain h =
     none_listed a (subst (λ (l : List ℕ). Contains l a) none h)
 
 -- a tally word is one of the first declaration or of those behind it
-in_words : (at : ℕ) (s : Shared) (rest : List Shared) (a : ℕ) → Contains (tallies_from at (first_memory (s ∷ rest))) a → Contains (tallies_from at (first_words s)) a ⊎ Contains (tallies_from (at + words_in s) (first_memory rest)) a
+in_words : (at : ℕ) (s : Shared) (rest : List Shared) (a : ℕ) → Contains (tallies_from at (first_memory (s ∷ rest))) a
+    → Contains (tallies_from at (first_words s)) a ⊎ Contains (tallies_from (at + words_in s) (first_memory rest)) a
 in_words at s rest a h =
     subst (λ (n : ℕ). Contains (tallies_from at (first_words s)) a ⊎ Contains (tallies_from (at + n) (first_memory rest)) a) (length_words s)
     (Contains-append_cases (tallies_from at (first_words s)) (tallies_from (at + length (first_words s)) (first_memory rest)) a
@@ -172,14 +175,16 @@ other_area at s rest name t e is =
     apart : (n k first a : ℕ) → k ≡ n → at + n ≤ first → first ≤ a → a < at + k → ⊥
     apart n k first a same le low high = omega (arith, same, le, low, high)
 
-    which : t.kind ≡ Ordinary → (a : ℕ) → is.area.first ≤ a → a < is.area.first + words_in t → Contains (tallies_from at (first_words s)) a ⊎ Contains (tallies_from (at + words_in s) (first_memory rest)) a → ⊥
+    which : t.kind ≡ Ordinary → (a : ℕ) → is.area.first ≤ a → a < is.area.first + words_in t
+        → Contains (tallies_from at (first_words s)) a ⊎ Contains (tallies_from (at + words_in s) (first_memory rest)) a → ⊥
     which kind a low high (inl own) = apart (words_in s) (length (first_words s)) is.area.first a (length_words s) is.behind low (listed_before (first_words s) at a own)
     which kind a low high (inr other) = is.plain kind a low high other
 
 -- ---- names that are declared
 
 -- so it is where the declared name is new
-pub found_declared : (names : Names) (name : Name) (d : Declaration) (t : Text) → is_some (meant names name) ≡ false → lookup (bytes_eq t) (declare names name d) ≡ found_in (lookup (bytes_eq t) names) (bytes_eq t name.text) d
+pub found_declared : (names : Names) (name : Name) (d : Declaration) (t : Text) → is_some (meant names name) ≡ false
+    → lookup (bytes_eq t) (declare names name d) ≡ found_in (lookup (bytes_eq t) names) (bytes_eq t name.text) d
 found_declared names name d t new = ap (λ (b : Bool). lookup (bytes_eq t) (if b then names else names ++ (name.text, d) ∷ [])) new ∙ found_behind names t name.text d
 
 -- a name that is visible stays what it is
@@ -212,7 +217,8 @@ others_named : (at : ℕ) (s : Shared) (rest : List Shared) (name : Text) (o : O
 others_named at s rest name None e h = tt
 others_named at s rest name (Some d) e h = record { declaration = h.declaration; stands = h.stands; sized = h.sized; plain = h.plain; area = other_area at s rest name h.declaration e h.area }
 
-named : (shared : List Shared) (names : Names) (at : ℕ) (name : Text) → shared_faults names shared ≡ [] → AreSized shared → ArraysArePlain shared → lookup (bytes_eq name) names ≡ None → Named at shared name (lookup (bytes_eq name) (with_shared names shared))
+named : (shared : List Shared) (names : Names) (at : ℕ) (name : Text) → shared_faults names shared ≡ [] → AreSized shared → ArraysArePlain shared → lookup (bytes_eq name) names ≡ None
+    → Named at shared name (lookup (bytes_eq name) (with_shared names shared))
 named [] names at name clean sized plain none = subst (λ (o : Option Declaration). Named at [] name o) (sym none) tt
 named (s ∷ rest) names at name clean sized plain none =
     let d = stands_for s.size s.kind in
@@ -222,14 +228,16 @@ named (s ∷ rest) names at name clean sized plain none =
     let new = none_if (is_some (meant names s.name)) NameTaken s.name.at (none_in_first (taken names s.name) (size_faults s.size) first_two) in
     by (bytes_eq s.name.text name) refl new (λ none'. named rest (declare names s.name d) (at + words_in s) name (none_in_second before after clean) sized.1 plain.1 none')
   where
-    found : (b : Bool) → bytes_eq s.name.text name ≡ b → is_some (meant names s.name) ≡ false → lookup (bytes_eq name) (declare names s.name (stands_for s.size s.kind)) ≡ found_in None b (stands_for s.size s.kind)
+    found : (b : Bool) → bytes_eq s.name.text name ≡ b → is_some (meant names s.name) ≡ false
+        → lookup (bytes_eq name) (declare names s.name (stands_for s.size s.kind)) ≡ found_in None b (stands_for s.size s.kind)
     found b is new =
         found_declared names s.name (stands_for s.size s.kind) name new
         ∙ ap (λ (o : Option Declaration). found_in o (bytes_eq name s.name.text) (stands_for s.size s.kind)) none
         ∙ ap (λ (c : Bool). found_in None c (stands_for s.size s.kind)) (bytes_turned s.name.text name b is)
 
     by : (b : Bool) → bytes_eq s.name.text name ≡ b → is_some (meant names s.name) ≡ false
-        → (lookup (bytes_eq name) (declare names s.name (stands_for s.size s.kind)) ≡ None → Named (at + words_in s) rest name (lookup (bytes_eq name) (with_shared (declare names s.name (stands_for s.size s.kind)) rest)))
+        → (lookup (bytes_eq name) (declare names s.name (stands_for s.size s.kind)) ≡ None → Named (at + words_in s) rest name
+        (lookup (bytes_eq name) (with_shared (declare names s.name (stands_for s.size s.kind)) rest)))
         → Named at (s ∷ rest) name (lookup (bytes_eq name) (with_shared (declare names s.name (stands_for s.size s.kind)) rest))
     by true is new go =
         subst (λ (o : Option Declaration). Named at (s ∷ rest) name o) (sym (still_shared rest (declare names s.name (stands_for s.size s.kind)) (stands_for s.size s.kind) name (found true is new)))
@@ -253,7 +261,8 @@ all_words first n k words same le = omega (arith, same, le)
 
 module _ (p : Program) (c : Code) (visible : ℕ) (name : Text) where
   -- a declaration stands for what its size and its kind say
-  declared_means : (s : Shared) (size : Option ArraySize) (kind : WordKind) → s.size ≡ size → s.kind ≡ kind → IsSized size → ((n : ArraySize) → s.size ≡ Some n → s.kind ≡ Ordinary) → AreaIs 0 p.shared name s
+  declared_means : (s : Shared) (size : Option ArraySize) (kind : WordKind) → s.size ≡ size → s.kind ≡ kind → IsSized size → ((n : ArraySize) → s.size ≡ Some n → s.kind ≡ Ordinary)
+      → AreaIs 0 p.shared name s
       → Means p (module_of p) c visible [] name (Some (stands_for size kind))
   declared_means s None Ordinary size_is kind_is sized plain is =
       let one : words_in s ≡ 1 = ap (λ (size : Option ArraySize). word_count (items_in size)) size_is in
@@ -296,9 +305,12 @@ accepted_shared p e =
     none_in_first (shared_faults [] p.shared) (word_faults 0 p.shared)
     (none_in_first (shared_faults [] p.shared ++ word_faults 0 p.shared) (all_function_faults (with_shared [] p.shared) p.functions)
     (none_in_first (shared_faults [] p.shared ++ word_faults 0 p.shared ++ all_function_faults (with_shared [] p.shared) p.functions) (beyond most_functions (map (λ f. f.name.at) p.functions))
-    (none_in_first (shared_faults [] p.shared ++ word_faults 0 p.shared ++ all_function_faults (with_shared [] p.shared) p.functions ++ beyond most_functions (map (λ f. f.name.at) p.functions)) (main_faults (global_names p) p.main)
+    (none_in_first (shared_faults [] p.shared ++ word_faults 0 p.shared ++ all_function_faults (with_shared [] p.shared) p.functions ++ beyond most_functions (map (λ f. f.name.at) p.functions))
+    (main_faults (global_names p) p.main)
     (accepted_none p e))))
 
 -- each shared name of an accepted program stands for what the code takes it for
-pub shared_means : (p : Program) → IsAccepted p → ArraysArePlain p.shared → (name : Text) (c : Code) (visible : ℕ) → Means p (module_of p) c visible [] name (lookup (bytes_eq name) (with_shared [] p.shared))
-shared_means p accepted plain name c visible = named_means p c visible name (lookup (bytes_eq name) (with_shared [] p.shared)) (named p.shared [] 0 name (accepted_shared p accepted) (accepted-sized p accepted) plain refl)
+pub shared_means : (p : Program) → IsAccepted p → ArraysArePlain p.shared → (name : Text) (c : Code) (visible : ℕ)
+    → Means p (module_of p) c visible [] name (lookup (bytes_eq name) (with_shared [] p.shared))
+shared_means p accepted plain name c visible = named_means p c visible name (lookup (bytes_eq name) (with_shared [] p.shared))
+    (named p.shared [] 0 name (accepted_shared p accepted) (accepted-sized p accepted) plain refl)

@@ -52,7 +52,8 @@ module _ (m : Module) (c : Code) (taken : Taken) (Ok : Instr → Type 0) (visibl
   no_next : (place : ℕ) → length c.instrs ≡ place + 1 → NextAlone m c taken Ok place
   no_next place e within none = absurd (omega (arith, e, within))
 
-  closing_right : (g : Result) (at : ℕ) → c.gives ≡ gives_of g → length c.instrs ≡ at + length (closing g) → Held c.instrs at (closing g) → Held taken at (closing_taken g) → Right m c taken Ok at (closing g)
+  closing_right : (g : Result) (at : ℕ) → c.gives ≡ gives_of g → length c.instrs ≡ at + length (closing g) → Held c.instrs at (closing g) → Held taken at (closing_taken g)
+      → Right m c taken Ok at (closing g)
   closing_right result'.Nothing at same e h t =
       (returns m c taken Ok at [] t.0 (ap (λ (g : Result). option_map (λ rest. rest) (below (result g) [])) same) (omega arith) (permits.plain i.Return tt) (no_next at (omega (arith, e))), tt)
   closing_right result'.Int at same e h t = (
@@ -115,11 +116,14 @@ pub record Keeps (m : Module) (c : Code) (Ok : Instr → Type 0) : Type 0 where
   pub allowed : AllByRecursion Ok c.instrs
 
 -- a body of this many instructions and the return behind it
-module _ (m : Module) (c : Code) (Ok : Instr → Type 0) (visible : ℕ) (main : Bool) (permits : Permits m c visible main Ok) (g : Result) (gives : c.gives ≡ gives_of g) (body : List Instr) (body_taken : Taken) (n : ℕ) where
+module _ (m : Module) (c : Code) (Ok : Instr → Type 0) (visible : ℕ) (main : Bool) (permits : Permits m c visible main Ok) (g : Result) (gives : c.gives ≡ gives_of g) (body : List Instr)
+    (body_taken : Taken) (n : ℕ) where
   pub keeps : c.instrs ≡ body ++ closing g → length body ≡ n → length body_taken ≡ n
       → length c.locals ≤ 64 → c.params ≤ 8 → c.params ≤ length c.locals
-      → (length (body_taken ++ closing_taken g) ≡ length c.instrs → Held (body_taken ++ closing_taken g) 0 body_taken → KindsAt (body_taken ++ closing_taken g) (0 + n) [] → KindsAt (body_taken ++ closing_taken g) 0 [])
-      → (length (body_taken ++ closing_taken g) ≡ length c.instrs → Held c.instrs 0 body → Held (body_taken ++ closing_taken g) 0 body_taken → KindsAt (body_taken ++ closing_taken g) (0 + n) [] → Right m c (body_taken ++ closing_taken g) Ok 0 body)
+      → (length (body_taken ++ closing_taken g) ≡ length c.instrs → Held (body_taken ++ closing_taken g) 0 body_taken → KindsAt (body_taken ++ closing_taken g) (0 + n) []
+      → KindsAt (body_taken ++ closing_taken g) 0 [])
+      → (length (body_taken ++ closing_taken g) ≡ length c.instrs → Held c.instrs 0 body → Held (body_taken ++ closing_taken g) 0 body_taken → KindsAt (body_taken ++ closing_taken g) (0 + n) []
+      → Right m c (body_taken ++ closing_taken g) Ok 0 body)
       → Keeps m c Ok
   keeps same e f locals params has starts right =
       let l = length-append body (closing g) in
@@ -135,7 +139,8 @@ module _ (m : Module) (c : Code) (Ok : Instr → Type 0) (visible : ℕ) (main :
       let tc = behind (body_taken ++ closing_taken g) 0 (0 + n) body_taken (closing_taken g) (omega (arith, f)) t in
       let end = closing_starts g (body_taken ++ closing_taken g) (0 + n) tc in
       let first = starts long tb end in
-      let all : Right m c (body_taken ++ closing_taken g) Ok 0 (body ++ closing g) = join m c (body_taken ++ closing_taken g) Ok 0 (0 + n) body (closing g) (omega (arith, e)) (right long hb tb end) (closing_right m c (body_taken ++ closing_taken g) Ok visible main permits g (0 + n) gives (omega (arith, l, whole, e)) hc tc) in
+      let all : Right m c (body_taken ++ closing_taken g) Ok 0 (body ++ closing g) = join m c (body_taken ++ closing_taken g) Ok 0 (0 + n) body (closing g) (omega (arith, e)) (right long hb tb end)
+      (closing_right m c (body_taken ++ closing_taken g) Ok visible main permits g (0 + n) gives (omega (arith, l, whole, e)) hc tc) in
       let all' : Right m c (body_taken ++ closing_taken g) Ok 0 c.instrs = subst (λ (l : List Instr). Right m c (body_taken ++ closing_taken g) Ok 0 l) (sym same) all in
       let end_is = closed g in
       let split : c.instrs ≡ (body ++ end_is.before) ++ i.Return ∷ [] = same ∙ ap (λ (l : List Instr). body ++ l) end_is.last ∙ sym (append_assoc body end_is.before (i.Return ∷ [])) in

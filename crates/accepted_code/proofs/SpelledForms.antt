@@ -15,10 +15,14 @@ use Rattle.csl_tree.specs.declared.program.Stmt.{Stmt}
 use Rattle.csl_tree.specs.declared.program.Arm.{Arm, Arm', roll-Arm}
 use Rattle.csl_tree.specs.declared.program.RoutineBlock.{RoutineBlock, RoutineBlock', roll-RoutineBlock}
 use Rattle.csl_tree.specs.declared.program.Form.{Form, Row_of-Arm, more_of-Arm, Row_of-Stmt, Held-Form-If-1, Row_of-RoutineBlock, more_of-RoutineBlock}
-use Rattle.csl_tree.specs.declared.program.Form.TheBlock.{shape-the_row-Stmt-1, hidden-the_row-Stmt-1, shape-the_row-Stmt-2, hidden-the_row-Stmt-2, shape-the_row-Arm-0, hidden-the_row-Arm-0, shape-the_row-RoutineBlock-3, hidden-the_row-RoutineBlock-3, back-Form-If-1}
+use Rattle.csl_tree.specs.declared.program.Form.TheBlock.{shape-the_row-Stmt-1, hidden-the_row-Stmt-1, shape-the_row-Stmt-2, hidden-the_row-Stmt-2, shape-the_row-Arm-0, hidden-the_row-Arm-0}
+use Rattle.csl_tree.specs.declared.program.Form.TheBlock.{shape-the_row-RoutineBlock-3, hidden-the_row-RoutineBlock-3, back-Form-If-1}
 use Rattle.csl_grammar.specs.Expressions.{SpellsExpr, whole}
 use Rattle.csl_grammar.specs.Levels.{Nesting, Opens, Stays, behind}
-use Rattle.csl_grammar.specs.Programs.{SpellsPlace, bare, indexed, SpellsCall, called, SpellsDecl, declare, SpellsChange, set, add_to, SpellsItem, text as text_item, value as value_item, MoreOf, no_more, more, ListOf, nothing, something, SpellsStmt, declared, changed, calls, block, if_else, while_loop, for_loop, break_out, goes_on, returns, returns_value, asserts, prints, parallel, SpellsStart, declares, changes, SpellsBlock, braces, SpellsStmts, none, one_more, SpellsArm, tested, SpellsElse, no_else, else_if, else_block, SpellsRoutine, routine, SpellsRoutines, no_routine, one_routine}
+use Rattle.csl_grammar.specs.Programs.{SpellsPlace, bare, indexed, SpellsCall, called, SpellsDecl, declare, SpellsChange, set, add_to, SpellsItem, text as text_item, value as value_item, MoreOf}
+use Rattle.csl_grammar.specs.Programs.{no_more, more, ListOf, nothing, something, SpellsStmt, declared, changed, calls, block, if_else, while_loop, for_loop, break_out, goes_on, returns}
+use Rattle.csl_grammar.specs.Programs.{returns_value, asserts, prints, parallel, SpellsStart, declares, changes, SpellsBlock, braces, SpellsStmts, none, one_more, SpellsArm, tested, SpellsElse}
+use Rattle.csl_grammar.specs.Programs.{no_else, else_if, else_block, SpellsRoutine, routine, SpellsRoutines, no_routine, one_routine}
 use Rattle.compiled_code.specs.Sizes.{item_texts, texts_in, texts_in_row, texts_in_arms, texts_in_last}
 use Rattle.accepted_code.proofs.Spelled.{PlaceSpelled, CallSpelled, ExprSpelled, ItemsSpelled, FormSpelled, RowSpelled, ArmsSpelled, LastSpelled, BlocksSpelled}
 use Rattle.accepted_code.proofs.SpelledValues.{Good, first, inside, value_lower, values_lower, expr_spelled, arguments_spelled}
@@ -148,7 +152,8 @@ module _ (limit : ℕ) where
   -- ---- statements
 
   mutual
-    unfolding shape-the_row-Stmt-1 hidden-the_row-Stmt-1 shape-the_row-Stmt-2 hidden-the_row-Stmt-2 shape-the_row-Arm-0 hidden-the_row-Arm-0 shape-the_row-RoutineBlock-3 hidden-the_row-RoutineBlock-3 roll-Arm roll-RoutineBlock hidden roll
+    unfolding shape-the_row-Stmt-1 hidden-the_row-Stmt-1 shape-the_row-Stmt-2 hidden-the_row-Stmt-2 shape-the_row-Arm-0 hidden-the_row-Arm-0 shape-the_row-RoutineBlock-3 hidden-the_row-RoutineBlock-3
+        roll-Arm roll-RoutineBlock hidden roll
 
     pub stmt_stands : {tokens rest : List Token} {s : Stmt} → SpellsStmt tokens rest s → Onward limit tokens → FormStands limit s.form × Onward limit rest
     stmt_stands (declared d k) o = let one : _ × _ = decl_stands d o in (one.0, onward one.1)
@@ -197,7 +202,8 @@ module _ (limit : ℕ) where
         let inner : _ × _ = block_stands body (onward test.1) in
         ((test.0, inner.0), inner.1)
 
-    pub else_stands : {tokens rest : List Token} {arms : List Arm} {last : Option (List Stmt)} → SpellsElse tokens rest arms last → Onward limit tokens → ArmsStand limit (hidden-the_row-Arm-0 arms) × LastStands limit (back-Form-If-1 last) × Onward limit rest
+    pub else_stands : {tokens rest : List Token} {arms : List Arm} {last : Option (List Stmt)} → SpellsElse tokens rest arms last → Onward limit tokens
+        → ArmsStand limit (hidden-the_row-Arm-0 arms) × LastStands limit (back-Form-If-1 last) × Onward limit rest
     else_stands no_else o = ((tt, none_short), (tt, none_short), o)
     else_stands (else_if {a = a} {arms = arms} k i d l) o =
         let one : _ × _ = arm_stands d (onward (onward o)) in
@@ -213,7 +219,8 @@ module _ (limit : ℕ) where
         let inner : _ × _ = block_stands body (onward (onward (onward (onward (onward (onward (onward (onward width.1)))))))) in
         ((width.0, inner.0.0), inner.1)
 
-    pub routines_stand : {tokens rest : List Token} {rs : List RoutineBlock} → SpellsRoutines tokens rest rs → Onward limit tokens → BlocksSpelled (hidden-the_row-RoutineBlock-3 rs) × Onward limit rest
+    pub routines_stand : {tokens rest : List Token} {rs : List RoutineBlock} → SpellsRoutines tokens rest rs → Onward limit tokens
+        → BlocksSpelled (hidden-the_row-RoutineBlock-3 rs) × Onward limit rest
     routines_stand no_routine o = (tt, o)
     routines_stand (one_routine {r = r} {rs = rs} d ds) o =
         let one : _ × _ = routine_stands d o in

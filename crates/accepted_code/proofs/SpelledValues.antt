@@ -16,7 +16,8 @@ use Rattle.csl_tree.specs.declared.program.Node.{Node, Number, Truth, Read, Call
 use Rattle.csl_tree.specs.declared.program.Node.TheBlock.{shape-the_row-Expr-0, hidden-the_row-Expr-0, shape-the_row-Expr-1, hidden-the_row-Expr-1}
 use Rattle.csl_tree.specs.declared.program.Place.{Place, Place', None', Some', roll-Place}
 use Rattle.csl_tree.specs.declared.program.Call.{Call, Call', roll-Call}
-use Rattle.csl_grammar.specs.Expressions.{SpellsExpr, SpellsChain, SpellsArguments, SpellsMore, chain, prefixed, number, truth, named, indexed, called, paren, ends, goes_on, nothing, something, no_more, more, mark_of, prefix_mark, truth_word}
+use Rattle.csl_grammar.specs.Expressions.{SpellsExpr, SpellsChain, SpellsArguments, SpellsMore, chain, prefixed, number, truth, named, indexed, called, paren, ends, goes_on, nothing, something}
+use Rattle.csl_grammar.specs.Expressions.{no_more, more, mark_of, prefix_mark, truth_word}
 use Rattle.csl_grammar.specs.Levels.{Nesting, Turn, Opens, Closes, Parts, Rises, Stays, turn_of, turn_of_mark, turn_of_word, turned, most_levels, IsFlatFrom}
 use Rattle.bytecode.specs.Spelling.{FitsZig}
 use Rattle.accepted_code.proofs.Spelled.{ValueSpelled, PlaceSpelled, CallSpelled, BoxedSpelled, ValuesSpelled}
@@ -91,7 +92,8 @@ pub record First (limit : ℕ) (behind : Nesting) (k : TokenKind) (rest : List T
   pub fits : KindFits limit k
   pub good : Good limit behind rest
 
-pub first : {limit : ℕ} {nesting : Nesting} {token : Token} {rest : List Token} (k : TokenKind) (t : Turn) → token.kind ≡ k → turn_of k ≡ t → Good limit nesting (token ∷ rest) → First limit (turned t nesting) k rest
+pub first : {limit : ℕ} {nesting : Nesting} {token : Token} {rest : List Token} (k : TokenKind) (t : Turn) → token.kind ≡ k → turn_of k ≡ t → Good limit nesting (token ∷ rest)
+    → First limit (turned t nesting) k rest
 first {limit = limit} {nesting = nesting} {token = token} {rest = rest} k t e turns g =
     let is : turn_of token.kind ≡ t = ap turn_of e ∙ turns in
     record {
@@ -105,13 +107,15 @@ abbrev pub inside : Nesting → Nesting
 inside outer = record { level = outer.level + 1; opened = outer.level ∷ outer.opened }
 
 -- a closing bracket leads back to where the bracket was opened
-pub closing : {limit : ℕ} {to : Nesting} {token : Token} {rest : List Token} (outer : Nesting) (m : Mark) → turn_of_mark m ≡ Closes → to.opened ≡ outer.level ∷ outer.opened → token.kind ≡ kind.Mark m → Good limit to (token ∷ rest) → Good limit outer rest
+pub closing : {limit : ℕ} {to : Nesting} {token : Token} {rest : List Token} (outer : Nesting) (m : Mark) → turn_of_mark m ≡ Closes → to.opened ≡ outer.level ∷ outer.opened → token.kind ≡ kind.Mark m
+    → Good limit to (token ∷ rest) → Good limit outer rest
 closing {limit = limit} {to = to} {rest = rest} outer m turns opened e g =
     let level : ℕ = to.level in
     subst (λ (o : List ℕ). Good limit (turned Closes (record { level = level; opened = o })) rest) opened (first (kind.Mark m) Closes e turns g).good
 
 -- a comma or a semicolon leads back to where the bracket was opened, too
-pub parting : {limit : ℕ} {to : Nesting} {token : Token} {rest : List Token} (outer : Nesting) (m : Mark) → turn_of_mark m ≡ Parts → to.opened ≡ outer.level ∷ outer.opened → token.kind ≡ kind.Mark m → Good limit to (token ∷ rest) → Good limit (inside outer) rest
+pub parting : {limit : ℕ} {to : Nesting} {token : Token} {rest : List Token} (outer : Nesting) (m : Mark) → turn_of_mark m ≡ Parts → to.opened ≡ outer.level ∷ outer.opened → token.kind ≡ kind.Mark m
+    → Good limit to (token ∷ rest) → Good limit (inside outer) rest
 parting {limit = limit} {to = to} {rest = rest} outer m turns opened e g =
     let level : ℕ = to.level in
     subst (λ (o : List ℕ). Good limit (turned Parts (record { level = level; opened = o })) rest) opened (first (kind.Mark m) Parts e turns g).good
@@ -136,7 +140,8 @@ module _ (limit : ℕ) where
   mutual
     unfolding shape-the_row-Expr-0 hidden-the_row-Expr-0 shape-the_row-Expr-1 hidden-the_row-Expr-1 roll-Place roll-Call hidden roll
 
-    pub expr_spelled : {level : ℕ} {tokens rest : List Token} {e : Expr} → SpellsExpr level tokens rest e → (from : Nesting) → Good limit from tokens → ValueSpelled from.level e.node × Behind limit from rest
+    pub expr_spelled : {level : ℕ} {tokens rest : List Token} {e : Expr} → SpellsExpr level tokens rest e → (from : Nesting) → Good limit from tokens
+        → ValueSpelled from.level e.node × Behind limit from rest
     expr_spelled (chain d c) from g = let one : _ × _ = expr_spelled d from g in chain_spelled c from one.1 one.0
     expr_spelled (prefixed {op = op} k d) from g =
         let sign = first (kind.Mark (prefix_mark op)) Rises k (prefix_rises op) g in
@@ -166,21 +171,24 @@ module _ (limit : ℕ) where
         let inner : _ × _ = expr_spelled d (inside from) opening.good in
         (inner.0, here (closing from mark.CloseParen refl inner.1.opened c inner.1.good))
 
-    pub chain_spelled : {level : ℕ} {left e : Expr} {tokens rest : List Token} → SpellsChain level left tokens rest e → (from : Nesting) → Behind limit from tokens → ValueSpelled from.level left.node → ValueSpelled from.level e.node × Behind limit from rest
+    pub chain_spelled : {level : ℕ} {left e : Expr} {tokens rest : List Token} → SpellsChain level left tokens rest e → (from : Nesting) → Behind limit from tokens → ValueSpelled from.level left.node
+        → ValueSpelled from.level e.node × Behind limit from rest
     chain_spelled ends from b h = (h, b)
     chain_spelled (goes_on {op = op} {right = right} at k d c) from b h =
         let sign = first (kind.Mark (mark_of op)) Rises k (mark_rises op) b.good in
         let operand : _ × _ = expr_spelled d (turned Rises b.to) sign.good in
         chain_spelled c from (further b.opened (omega (arith, b.higher)) operand.1) (h, value_lower (from.level + 1) (b.to.level + 1) (omega (arith, b.higher)) right.node operand.0)
 
-    pub arguments_spelled : {tokens rest : List Token} {es : List Expr} → SpellsArguments tokens rest es → (outer : Nesting) → Good limit (inside outer) tokens → ValuesSpelled (outer.level + 1) (hidden-the_row-Expr-1 es) × Behind limit (inside outer) rest
+    pub arguments_spelled : {tokens rest : List Token} {es : List Expr} → SpellsArguments tokens rest es → (outer : Nesting) → Good limit (inside outer) tokens
+        → ValuesSpelled (outer.level + 1) (hidden-the_row-Expr-1 es) × Behind limit (inside outer) rest
     arguments_spelled nothing outer g = (tt, here g)
     arguments_spelled (something d m) outer g =
         let one : _ × _ = expr_spelled d (inside outer) g in
         let others : _ × _ = more_spelled m outer one.1 in
         ((one.0, others.0), others.1)
 
-    pub more_spelled : {tokens rest : List Token} {es : List Expr} → SpellsMore tokens rest es → (outer : Nesting) → Behind limit (inside outer) tokens → ValuesSpelled (outer.level + 1) (hidden-the_row-Expr-1 es) × Behind limit (inside outer) rest
+    pub more_spelled : {tokens rest : List Token} {es : List Expr} → SpellsMore tokens rest es → (outer : Nesting) → Behind limit (inside outer) tokens
+        → ValuesSpelled (outer.level + 1) (hidden-the_row-Expr-1 es) × Behind limit (inside outer) rest
     more_spelled no_more outer b = (tt, b)
     more_spelled (more k d m) outer b =
         let one : _ × _ = expr_spelled d (inside outer) (parting outer mark.Comma refl b.opened k b.good) in

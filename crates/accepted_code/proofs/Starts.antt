@@ -13,7 +13,8 @@ use Rattle.csl_tree.specs.declared.program.Item.{Item}
 use Rattle.csl_tree.specs.declared.program.Item.TheVariants as item
 use Rattle.csl_tree.specs.declared.program.Arm.{Arm'}
 use Rattle.csl_tree.specs.declared.program.RoutineBlock.{RoutineBlock, RoutineBlock'}
-use Rattle.csl_tree.specs.declared.program.Form.{Form, Declare, Set, AddTo, If', While', For', Break, Continue, Return, Assert, Block', Print, Par', Row_of-Arm, end_of-Arm, more_of-Arm, Row_of-Stmt, end_of-Stmt, more_of-Stmt, Held-Form-If-1, Row_of-RoutineBlock, end_of-RoutineBlock, more_of-RoutineBlock}
+use Rattle.csl_tree.specs.declared.program.Form.{Form, Declare, Set, AddTo, If', While', For', Break, Continue, Return, Assert, Block', Print, Par', Row_of-Arm, end_of-Arm, more_of-Arm, Row_of-Stmt}
+use Rattle.csl_tree.specs.declared.program.Form.{end_of-Stmt, more_of-Stmt, Held-Form-If-1, Row_of-RoutineBlock, end_of-RoutineBlock, more_of-RoutineBlock}
 use Rattle.csl_tree.specs.declared.program.Form as form
 use Rattle.csl_meaning.specs.Effect.{function_named, blocks_in}
 use Rattle.cal_terms.specs.declared.types.Ty.{Ty}
@@ -21,12 +22,15 @@ use Rattle.cal_terms.specs.declared.types.Ty.TheVariants.{Bool as Truth'}
 use Rattle.code_verify.specs.Kinds.{Kinds}
 use Rattle.code_verify.specs.Rules.{Taken, KindsAt}
 use Rattle.compiled_code.specs.Slots.{Slot, Slots, slot_of}
-use Rattle.compiled_code.specs.Sizes.{value_size, boxed_size, place_size, values_size, call_size, size_of, operator_size, items_size, widths_size, returned_size, drop_size, given_by, kinds_in, kinds_in_row, kinds_in_arms}
+use Rattle.compiled_code.specs.Sizes.{value_size, boxed_size, place_size, values_size, call_size, size_of, operator_size, items_size, widths_size, returned_size, drop_size, given_by, kinds_in}
+use Rattle.compiled_code.specs.Sizes.{kinds_in_row, kinds_in_arms}
 use Rattle.compiled_code.specs.Places.{slots_after, slots_after_row, add_size, statement_size, form_size, row_size, arms_size, last_size}
 use Rattle.compiled_code.specs.Values.{kind_in, boxed_kind}
-use Rattle.accepted_code.proofs.Spelled.{ValueSpelled, PlaceSpelled, BoxedSpelled, ValuesSpelled, ExprSpelled, ReturnSpelled, ItemsSpelled, FormSpelled, RowSpelled, ArmsSpelled, LastSpelled, BlocksSpelled}
+use Rattle.accepted_code.proofs.Spelled.{ValueSpelled, PlaceSpelled, BoxedSpelled, ValuesSpelled, ExprSpelled, ReturnSpelled, ItemsSpelled, FormSpelled, RowSpelled, ArmsSpelled, LastSpelled}
+use Rattle.accepted_code.proofs.Spelled.{BlocksSpelled}
 use Rattle.accepted_code.proofs.Fits.{pushed, items_pushed}
-use Rattle.accepted_code.proofs.Taken.{binary_taken, add_taken, drop_taken, value_taken, call_taken, boxed_taken, values_taken, taken_of, set_taken, add_to_taken, return_taken, statement_taken, items_taken, widths_taken, widths_pushed, form_taken, row_taken, arms_taken, last_taken}
+use Rattle.accepted_code.proofs.Taken.{binary_taken, add_taken, drop_taken, value_taken, call_taken, boxed_taken, values_taken, taken_of, set_taken, add_to_taken, return_taken, statement_taken}
+use Rattle.accepted_code.proofs.Taken.{items_taken, widths_taken, widths_pushed, form_taken, row_taken, arms_taken, last_taken}
 use Rattle.accepted_code.proofs.Fine.{Held, in_front, behind}
 
 -- ---- as many as instructions
@@ -44,7 +48,8 @@ plain_many left right x n k e f =
     let q = length-append left right in
     omega (arith, l, q, e, f)
 
-pub binary_many : (op : BinaryOp) (ks : Kinds) (a b : Ty) (n k : ℕ) (left : Taken) (right : Kinds → Taken) → length left ≡ n → ((below : Kinds) → length (right below) ≡ k) → length (binary_taken op ks a b left right) ≡ n + k + operator_size op
+pub binary_many : (op : BinaryOp) (ks : Kinds) (a b : Ty) (n k : ℕ) (left : Taken) (right : Kinds → Taken) → length left ≡ n → ((below : Kinds) → length (right below) ≡ k)
+    → length (binary_taken op ks a b left right) ≡ n + k + operator_size op
 binary_many And ks a b n k left right e f =
     let l = length-append (left ++ (a ∷ ks) ∷ right ks) ((b ∷ ks) ∷ ks ∷ []) in
     let q = length-append left ((a ∷ ks) ∷ right ks) in
@@ -66,7 +71,8 @@ module _ (p : Program) (slots : Slots) where
     value_many (CallOf call) ks = call_many call ks
     value_many (Unary' op shape a) ks = more (boxed_taken p slots a ks) _ (boxed_size a) (boxed_many a ks)
     value_many (Binary' op shape a shape' b) ks =
-        binary_many op ks (boxed_kind p slots a) (boxed_kind p slots b) (boxed_size a) (boxed_size b) (boxed_taken p slots a ks) (λ below. boxed_taken p slots b below) (boxed_many a ks) (λ below. boxed_many b below)
+        binary_many op ks (boxed_kind p slots a) (boxed_kind p slots b) (boxed_size a) (boxed_size b) (boxed_taken p slots a ks) (λ below. boxed_taken p slots b below) (boxed_many a ks)
+        (λ below. boxed_many b below)
     value_many (Paren' shape a) ks = boxed_many a ks
 
     pub call_many : (call : Call) (ks : Kinds) → length (call_taken p slots call ks) ≡ call_size call
@@ -78,7 +84,8 @@ module _ (p : Program) (slots : Slots) where
 
     pub values_many : {n : _} (row : Row_of-Expr n) (ks : Kinds) → length (values_taken p slots row ks) ≡ values_size row
     values_many end_of-Expr ks = refl
-    values_many (more_of-Expr at node rest) ks = two (value_taken p slots node ks) (values_taken p slots rest (kind_in p slots node ∷ ks)) (value_size node) (values_size rest) (value_many node ks) (values_many rest (kind_in p slots node ∷ ks))
+    values_many (more_of-Expr at node rest) ks = two (value_taken p slots node ks) (values_taken p slots rest (kind_in p slots node ∷ ks)) (value_size node) (values_size rest) (value_many node ks)
+        (values_many rest (kind_in p slots node ∷ ks))
 
   pub expr_many : (e : Expr) (ks : Kinds) → length (taken_of p slots e ks) ≡ size_of e
   expr_many e ks = value_many e.node ks
@@ -86,12 +93,14 @@ module _ (p : Program) (slots : Slots) where
   pub items_many : (items : List Item) (ks : Kinds) → length (items_taken p slots items ks) ≡ items_size items
   items_many [] ks = refl
   items_many (item.Text text ∷ rest) ks = items_many rest ks
-  items_many (item.Value e ∷ rest) ks = two (taken_of p slots e ks) (items_taken p slots rest (kind_in p slots e.node ∷ ks)) (size_of e) (items_size rest) (expr_many e ks) (items_many rest (kind_in p slots e.node ∷ ks))
+  items_many (item.Value e ∷ rest) ks = two (taken_of p slots e ks) (items_taken p slots rest (kind_in p slots e.node ∷ ks)) (size_of e) (items_size rest) (expr_many e ks)
+      (items_many rest (kind_in p slots e.node ∷ ks))
 
   pub widths_many : (blocks : List RoutineBlock) (ks : Kinds) → length (widths_taken p slots blocks ks) ≡ widths_size blocks
   widths_many [] ks = refl
   widths_many (RoutineBlock' where' width width_name id_name shape body ∷ rest) ks =
-      two (taken_of p slots width ks) (widths_taken p slots rest (kind_in p slots width.node ∷ ks)) (size_of width) (widths_size rest) (expr_many width ks) (widths_many rest (kind_in p slots width.node ∷ ks))
+      two (taken_of p slots width ks) (widths_taken p slots rest (kind_in p slots width.node ∷ ks)) (size_of width) (widths_size rest) (expr_many width ks)
+      (widths_many rest (kind_in p slots width.node ∷ ks))
 
   set_many : (place : Place) (e : Expr) → length (set_taken p slots place e) ≡ place_size place + size_of e + 1
   set_many (Place' name None') e =
@@ -110,14 +119,16 @@ module _ (p : Program) (slots : Slots) where
 
   statement_many : (call : Call) → length (statement_taken p slots call) ≡ statement_size p call
   statement_many (Call' name shape args) =
-      two (call_taken p slots (Call' name shape args) []) (drop_taken (given_by (function_named p.functions name.text))) (values_size args + 1) (drop_size (given_by (function_named p.functions name.text))) (call_many (Call' name shape args) []) (dropped (given_by (function_named p.functions name.text)))
+      two (call_taken p slots (Call' name shape args) []) (drop_taken (given_by (function_named p.functions name.text))) (values_size args + 1)
+      (drop_size (given_by (function_named p.functions name.text))) (call_many (Call' name shape args) []) (dropped (given_by (function_named p.functions name.text)))
 
   add_many : (o : Option Slot) → length (add_taken o) ≡ add_size o
   add_many (Some s) = refl
   add_many None = refl
 
   add_to_many : (place : Place) (e : Expr) (slot : ℕ) → length (add_to_taken p slots place e) ≡ form_size p (AddTo place e) slots slot
-  add_to_many (Place' name None') e slot = two (taken_of p slots e []) (add_taken (slot_of slots name.text)) (size_of e) (add_size (slot_of slots name.text)) (expr_many e []) (add_many (slot_of slots name.text))
+  add_to_many (Place' name None') e slot = two (taken_of p slots e []) (add_taken (slot_of slots name.text)) (size_of e) (add_size (slot_of slots name.text)) (expr_many e [])
+      (add_many (slot_of slots name.text))
   add_to_many (Place' name (Some' shape index)) e slot = plain_many (boxed_taken p slots index []) (taken_of p slots e _) _ (boxed_size index) (size_of e) (boxed_many index []) (expr_many e _)
 
 module _ (p : Program) where
@@ -127,7 +138,8 @@ module _ (p : Program) where
     form_many (Set place e) slots slot = set_many p slots place e
     form_many (AddTo place e) slots slot = add_to_many p slots place e slot
     form_many (If' shape arms last) slots slot =
-        two (arms_taken p arms slots slot) (last_taken p last slots (slot + length (kinds_in_arms arms))) (arms_size p arms slots slot) (last_size p last slots (slot + length (kinds_in_arms arms))) (arms_many arms slots slot) (last_many last slots (slot + length (kinds_in_arms arms)))
+        two (arms_taken p arms slots slot) (last_taken p last slots (slot + length (kinds_in_arms arms))) (arms_size p arms slots slot) (last_size p last slots (slot + length (kinds_in_arms arms)))
+        (arms_many arms slots slot) (last_many last slots (slot + length (kinds_in_arms arms)))
     form_many (While' test shape body) slots slot =
         let one = taken_of p slots test [] in
         let inside = row_taken p body slots slot in
@@ -165,7 +177,8 @@ module _ (p : Program) where
     pub row_many : {n : _} (row : Row_of-Stmt n) (slots : Slots) (slot : ℕ) → length (row_taken p row slots slot) ≡ row_size p row slots slot
     row_many end_of-Stmt slots slot = refl
     row_many (more_of-Stmt where' f rest) slots slot =
-        two (form_taken p f slots slot) (row_taken p rest (slots_after slots slot f) (slot + length (kinds_in f))) (form_size p f slots slot) (row_size p rest (slots_after slots slot f) (slot + length (kinds_in f))) (form_many f slots slot) (row_many rest (slots_after slots slot f) (slot + length (kinds_in f)))
+        two (form_taken p f slots slot) (row_taken p rest (slots_after slots slot f) (slot + length (kinds_in f))) (form_size p f slots slot)
+        (row_size p rest (slots_after slots slot f) (slot + length (kinds_in f))) (form_many f slots slot) (row_many rest (slots_after slots slot f) (slot + length (kinds_in f)))
 
     pub arms_many : {n : _} (arms : Row_of-Arm n) (slots : Slots) (slot : ℕ) → length (arms_taken p arms slots slot) ≡ arms_size p arms slots slot
     arms_many end_of-Arm slots slot = refl
@@ -196,7 +209,8 @@ pub widths_spelled : {n : _} (blocks : Row_of-RoutineBlock n) → BlocksSpelled 
 widths_spelled end_of-RoutineBlock s = tt
 widths_spelled (more_of-RoutineBlock (RoutineBlock' where' width width_name id_name shape body) rest) s = (s.0, widths_spelled rest s.2)
 
-binary_starts : (taken : Taken) (at : ℕ) (op : BinaryOp) (ks : Kinds) (a b : Ty) (left : Taken) (right : Kinds → Taken) → (Held taken at left → KindsAt taken at ks) → Held taken at (binary_taken op ks a b left right) → KindsAt taken at ks
+binary_starts : (taken : Taken) (at : ℕ) (op : BinaryOp) (ks : Kinds) (a b : Ty) (left : Taken) (right : Kinds → Taken) → (Held taken at left → KindsAt taken at ks)
+    → Held taken at (binary_taken op ks a b left right) → KindsAt taken at ks
 binary_starts taken at And ks a b left right first h = first (in_front taken at left ((a ∷ ks) ∷ right ks) (in_front taken at (left ++ (a ∷ ks) ∷ right ks) _ h))
 binary_starts taken at Or ks a b left right first h = first (in_front taken at left _ h)
 binary_starts taken at op ks a b left right first h = first (in_front taken at left (right (a ∷ ks)) (in_front taken at (left ++ right (a ∷ ks)) _ h))
@@ -220,22 +234,26 @@ module _ (p : Program) (slots : Slots) (taken : Taken) where
     boxed_starts (more_of-Expr where' node rest) at ks level s h = value_starts node at ks level s h
 
     -- arguments, and what stands behind them
-    pub call_starts : {n : _} (row : Row_of-Expr n) (at : ℕ) (ks : Kinds) (level : ℕ) → ValuesSpelled level row → Held taken at (values_taken p slots row ks ++ (pushed p slots row ks) ∷ []) → KindsAt taken at ks
+    pub call_starts : {n : _} (row : Row_of-Expr n) (at : ℕ) (ks : Kinds) (level : ℕ) → ValuesSpelled level row → Held taken at (values_taken p slots row ks ++ (pushed p slots row ks) ∷ [])
+        → KindsAt taken at ks
     call_starts end_of-Expr at ks level s h = h.0
     call_starts (more_of-Expr where' node rest) at ks level s h =
         value_starts node at ks level s.0 (in_front taken at (value_taken p slots node ks) _ (in_front taken at (values_taken p slots (more_of-Expr where' node rest) ks) _ h))
 
   -- arguments before more of the kinds that they leave
-  pub values_start : {n : _} (row : Row_of-Expr n) (at : ℕ) (ks : Kinds) (level : ℕ) → ValuesSpelled level row → Held taken at (values_taken p slots row ks) → KindsAt taken (at + values_size row) (pushed p slots row ks) → KindsAt taken at ks
+  pub values_start : {n : _} (row : Row_of-Expr n) (at : ℕ) (ks : Kinds) (level : ℕ) → ValuesSpelled level row → Held taken at (values_taken p slots row ks)
+      → KindsAt taken (at + values_size row) (pushed p slots row ks) → KindsAt taken at ks
   values_start end_of-Expr at ks level s h e = let same : at + 0 ≡ at = omega arith in subst (λ (n : ℕ). KindsAt taken n ks) same e
   values_start (more_of-Expr where' node rest) at ks level s h e = value_starts node at ks level s.0 (in_front taken at (value_taken p slots node ks) _ h)
 
-  pub items_start : (items : List Item) (at : ℕ) (ks : Kinds) → ItemsSpelled items → Held taken at (items_taken p slots items ks) → KindsAt taken (at + items_size items) (items_pushed p slots items ks) → KindsAt taken at ks
+  pub items_start : (items : List Item) (at : ℕ) (ks : Kinds) → ItemsSpelled items → Held taken at (items_taken p slots items ks)
+      → KindsAt taken (at + items_size items) (items_pushed p slots items ks) → KindsAt taken at ks
   items_start [] at ks s h e = let same : at + 0 ≡ at = omega arith in subst (λ (n : ℕ). KindsAt taken n ks) same e
   items_start (item.Text text ∷ rest) at ks s h e = items_start rest at ks s h e
   items_start (item.Value v ∷ rest) at ks s h e = value_starts v.node at ks 0 s.0 (in_front taken at (taken_of p slots v ks) _ h)
 
-  pub widths_start : (blocks : List RoutineBlock) (at : ℕ) (ks : Kinds) → WidthsSpelled blocks → Held taken at (widths_taken p slots blocks ks) → KindsAt taken (at + widths_size blocks) (widths_pushed p slots blocks ks) → KindsAt taken at ks
+  pub widths_start : (blocks : List RoutineBlock) (at : ℕ) (ks : Kinds) → WidthsSpelled blocks → Held taken at (widths_taken p slots blocks ks)
+      → KindsAt taken (at + widths_size blocks) (widths_pushed p slots blocks ks) → KindsAt taken at ks
   widths_start [] at ks s h e = let same : at + 0 ≡ at = omega arith in subst (λ (n : ℕ). KindsAt taken n ks) same e
   widths_start (RoutineBlock' where' width width_name id_name shape body ∷ rest) at ks s h e = value_starts width.node at ks 0 s.0 (in_front taken at (taken_of p slots width ks) _ h)
 
@@ -245,21 +263,25 @@ module _ (p : Program) (slots : Slots) (taken : Taken) where
 
   set_starts : (place : Place) (e : Expr) (at : ℕ) → PlaceSpelled 0 place → ExprSpelled e → Held taken at (set_taken p slots place e) → KindsAt taken at []
   set_starts (Place' name None') e at s t h = value_starts e.node at [] 0 t (in_front taken at (taken_of p slots e []) _ h)
-  set_starts (Place' name (Some' shape index)) e at s t h = boxed_starts index at [] 1 s (in_front taken at (boxed_taken p slots index []) _ (in_front taken at (boxed_taken p slots index [] ++ taken_of p slots e _) _ h))
+  set_starts (Place' name (Some' shape index)) e at s t h = boxed_starts index at [] 1 s (in_front taken at (boxed_taken p slots index []) _
+      (in_front taken at (boxed_taken p slots index [] ++ taken_of p slots e _) _ h))
 
   add_to_starts : (place : Place) (e : Expr) (at : ℕ) → PlaceSpelled 0 place → ExprSpelled e → Held taken at (add_to_taken p slots place e) → KindsAt taken at []
   add_to_starts (Place' name None') e at s t h = value_starts e.node at [] 0 t (in_front taken at (taken_of p slots e []) _ h)
-  add_to_starts (Place' name (Some' shape index)) e at s t h = boxed_starts index at [] 1 s (in_front taken at (boxed_taken p slots index []) _ (in_front taken at (boxed_taken p slots index [] ++ taken_of p slots e _) _ h))
+  add_to_starts (Place' name (Some' shape index)) e at s t h = boxed_starts index at [] 1 s
+      (in_front taken at (boxed_taken p slots index []) _ (in_front taken at (boxed_taken p slots index [] ++ taken_of p slots e _) _ h))
 
   print_starts : (items : List Item) (at : ℕ) → ItemsSpelled items → Held taken at (items_taken p slots items [] ++ (items_pushed p slots items []) ∷ []) → KindsAt taken at []
   print_starts items at s h =
       let l = items_many p slots items [] in
-      items_start items at [] s (in_front taken at (items_taken p slots items []) _ h) (behind taken at (at + items_size items) (items_taken p slots items []) ((items_pushed p slots items []) ∷ []) (omega (arith, l)) h).0
+      items_start items at [] s (in_front taken at (items_taken p slots items []) _ h) (behind taken at (at + items_size items) (items_taken p slots items []) ((items_pushed p slots items []) ∷ [])
+      (omega (arith, l)) h).0
 
   par_starts : (blocks : List RoutineBlock) (at : ℕ) → WidthsSpelled blocks → Held taken at (widths_taken p slots blocks [] ++ (widths_pushed p slots blocks []) ∷ []) → KindsAt taken at []
   par_starts blocks at s h =
       let l = widths_many p slots blocks [] in
-      widths_start blocks at [] s (in_front taken at (widths_taken p slots blocks []) _ h) (behind taken at (at + widths_size blocks) (widths_taken p slots blocks []) ((widths_pushed p slots blocks []) ∷ []) (omega (arith, l)) h).0
+      widths_start blocks at [] s (in_front taken at (widths_taken p slots blocks []) _ h) (behind taken at (at + widths_size blocks) (widths_taken p slots blocks [])
+      ((widths_pushed p slots blocks []) ∷ []) (omega (arith, l)) h).0
 
 -- where a piece of no entries ends it begins
 nothing_there : (taken : Taken) (at : ℕ) → KindsAt taken (at + 0) [] → KindsAt taken at []
@@ -277,10 +299,12 @@ module _ (p : Program) (taken : Taken) where
         let l = arms_many p arms slots slot in
         let last_there = behind taken at (at + arms_size p arms slots slot) (arms_taken p arms slots slot) (last_taken p last slots behind_arms) (omega (arith, l)) h in
         let same : at + (arms_size p arms slots slot + last_size p last slots behind_arms) ≡ at + arms_size p arms slots slot + last_size p last slots behind_arms = omega arith in
-        arms_start arms slots at slot s.0 (in_front taken at (arms_taken p arms slots slot) _ h) (last_starts last slots (at + arms_size p arms slots slot) behind_arms s.1 last_there (subst (λ (n : ℕ). KindsAt taken n []) same end))
+        arms_start arms slots at slot s.0 (in_front taken at (arms_taken p arms slots slot) _ h)
+        (last_starts last slots (at + arms_size p arms slots slot) behind_arms s.1 last_there (subst (λ (n : ℕ). KindsAt taken n []) same end))
     form_starts (While' test shape body) slots at slot s h end =
         value_starts p slots taken test.node at [] 0 s.0
-        (in_front taken at (taken_of p slots test []) ((kind_in p slots test.node ∷ []) ∷ row_taken p body slots slot) (in_front taken at (taken_of p slots test [] ++ (kind_in p slots test.node ∷ []) ∷ row_taken p body slots slot) ([] ∷ []) h))
+        (in_front taken at (taken_of p slots test []) ((kind_in p slots test.node ∷ []) ∷ row_taken p body slots slot)
+        (in_front taken at (taken_of p slots test [] ++ (kind_in p slots test.node ∷ []) ∷ row_taken p body slots slot) ([] ∷ []) h))
     form_starts (For' shape first test shape' next' shape'' body) slots at slot s h end =
         let inner = slots_after_row slots slot first in
         let begin = slot + length (kinds_in_row first) in
@@ -301,7 +325,8 @@ module _ (p : Program) (taken : Taken) where
     form_starts (Print items) slots at slot s h end = print_starts p slots taken items at s h
     form_starts (Par' shape blocks) slots at slot s h end = par_starts p slots taken (blocks_in blocks) at (widths_spelled blocks s.1) h
 
-    pub row_starts : {n : _} (row : Row_of-Stmt n) (slots : Slots) (at slot : ℕ) → RowSpelled row → Held taken at (row_taken p row slots slot) → KindsAt taken (at + row_size p row slots slot) [] → KindsAt taken at []
+    pub row_starts : {n : _} (row : Row_of-Stmt n) (slots : Slots) (at slot : ℕ) → RowSpelled row → Held taken at (row_taken p row slots slot) → KindsAt taken (at + row_size p row slots slot) []
+        → KindsAt taken at []
     row_starts end_of-Stmt slots at slot s h end = nothing_there taken at end
     row_starts (more_of-Stmt where' f rest) slots at slot s h end =
         let size = form_size p f slots slot in
@@ -310,14 +335,18 @@ module _ (p : Program) (taken : Taken) where
         let l = form_many p f slots slot in
         let same : at + (size + row_size p rest more_slots more_slot) ≡ at + size + row_size p rest more_slots more_slot = omega arith in
         form_starts f slots at slot s.0 (in_front taken at (form_taken p f slots slot) _ h)
-        (row_starts rest more_slots (at + size) more_slot s.1 (behind taken at (at + size) (form_taken p f slots slot) (row_taken p rest more_slots more_slot) (omega (arith, l)) h) (subst (λ (n : ℕ). KindsAt taken n []) same end))
+        (row_starts rest more_slots (at + size) more_slot s.1 (behind taken at (at + size) (form_taken p f slots slot) (row_taken p rest more_slots more_slot) (omega (arith, l)) h)
+        (subst (λ (n : ℕ). KindsAt taken n []) same end))
 
-    pub arms_start : {n : _} (arms : Row_of-Arm n) (slots : Slots) (at slot : ℕ) → ArmsSpelled arms → Held taken at (arms_taken p arms slots slot) → KindsAt taken (at + arms_size p arms slots slot) [] → KindsAt taken at []
+    pub arms_start : {n : _} (arms : Row_of-Arm n) (slots : Slots) (at slot : ℕ) → ArmsSpelled arms → Held taken at (arms_taken p arms slots slot) → KindsAt taken (at + arms_size p arms slots slot) []
+        → KindsAt taken at []
     arms_start end_of-Arm slots at slot s h end = nothing_there taken at end
     arms_start (more_of-Arm (Arm' test shape body) rest) slots at slot s h end =
         value_starts p slots taken test.node at [] 0 s.0
-        (in_front taken at (taken_of p slots test []) ((kind_in p slots test.node ∷ []) ∷ row_taken p body slots slot) (in_front taken at (taken_of p slots test [] ++ (kind_in p slots test.node ∷ []) ∷ row_taken p body slots slot) ([] ∷ arms_taken p rest slots (slot + length (kinds_in_row body))) h))
+        (in_front taken at (taken_of p slots test []) ((kind_in p slots test.node ∷ []) ∷ row_taken p body slots slot)
+        (in_front taken at (taken_of p slots test [] ++ (kind_in p slots test.node ∷ []) ∷ row_taken p body slots slot) ([] ∷ arms_taken p rest slots (slot + length (kinds_in_row body))) h))
 
-    pub last_starts : (last : Held-Form-If-1) (slots : Slots) (at slot : ℕ) → LastSpelled last → Held taken at (last_taken p last slots slot) → KindsAt taken (at + last_size p last slots slot) [] → KindsAt taken at []
+    pub last_starts : (last : Held-Form-If-1) (slots : Slots) (at slot : ℕ) → LastSpelled last → Held taken at (last_taken p last slots slot) → KindsAt taken (at + last_size p last slots slot) []
+        → KindsAt taken at []
     last_starts form.None' slots at slot s h end = nothing_there taken at end
     last_starts (form.Some' shape body) slots at slot s h end = row_starts body slots at slot s h end

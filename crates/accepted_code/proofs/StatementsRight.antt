@@ -52,21 +52,24 @@ pushed_items p slots items ks = all items ks
     all (item.Text text ∷ rest) ks = let h = all rest ks in omega (arith, h)
     all (item.Value e ∷ rest) ks = let h = all rest (kind_in p slots e.node ∷ ks) in omega (arith, h)
 
-module _ (m : Module) (c : Code) (taken : Taken) (Ok : Instr → Type 0) (visible : ℕ) (main : Bool) (permits : Permits m c visible main Ok) (long : length taken ≡ length c.instrs) (p : Program) (slots : Slots) where
+module _ (m : Module) (c : Code) (taken : Taken) (Ok : Instr → Type 0) (visible : ℕ) (main : Bool) (permits : Permits m c visible main Ok) (long : length taken ≡ length c.instrs) (p : Program)
+    (slots : Slots) where
   -- an expression, and an instruction that takes its value
   pub expr_then : (e : Expr) (x : Instr) (at : ℕ) → ExprSpelled e → Falls x → IsInRange m c x → Ok x → after m c x (kind_in p slots e.node ∷ []) ≡ Some []
       → ValueFits m c Ok p slots e.node
       → Held c.instrs at (code_of p slots e at ++ x ∷ []) → Held taken at (taken_of p slots e [] ++ (kind_in p slots e.node ∷ []) ∷ []) → KindsAt taken (at + (size_of e + 1)) []
       → Right m c taken Ok at (code_of p slots e at ++ x ∷ [])
   expr_then e x at s plain in_range allowed leaves fit h t end =
-      then_one m c taken Ok at (size_of e) (code_of p slots e at) (taken_of p slots e []) x (kind_in p slots e.node ∷ []) [] (expr_length p slots e at) (expr_many p slots e []) plain in_range allowed leaves (omega arith) h t end
+      then_one m c taken Ok at (size_of e) (code_of p slots e at) (taken_of p slots e []) x (kind_in p slots e.node ∷ []) [] (expr_length p slots e at) (expr_many p slots e []) plain in_range allowed
+      leaves (omega arith) h t end
       (λ h1 t1 there. value_right m c taken Ok visible main permits long p slots e.node at [] 0 fit s (omega arith) h1 t1 there)
 
   ints_taken : (x : Instr) (a b : Ty) → (a ≡ ty.Int) → (b ≡ ty.Int) → after m c x (ty.Int ∷ ty.Int ∷ []) ≡ Some [] → after m c x (b ∷ a ∷ []) ≡ Some []
   ints_taken x a b ea eb h = subst (λ (y : Ty). after m c x (y ∷ a ∷ []) ≡ Some []) (sym eb) (subst (λ (y : Ty). after m c x (ty.Int ∷ y ∷ []) ≡ Some []) (sym ea) h)
 
   -- an index and a value, and an instruction that takes both
-  item_then : {n : _} (index : Row_of-Expr n) (e : Expr) (x : Instr) (at : ℕ) → BoxedFits m c Ok p slots index → (boxed_kind p slots index ≡ ty.Int) → ExprFits m c Ok p slots e ty.Int → BoxedSpelled 1 index → ExprSpelled e
+  item_then : {n : _} (index : Row_of-Expr n) (e : Expr) (x : Instr) (at : ℕ) → BoxedFits m c Ok p slots index → (boxed_kind p slots index ≡ ty.Int) → ExprFits m c Ok p slots e ty.Int
+      → BoxedSpelled 1 index → ExprSpelled e
       → Falls x → IsInRange m c x → Ok x → after m c x (ty.Int ∷ ty.Int ∷ []) ≡ Some []
       → Held c.instrs at (boxed_code p slots index at ++ code_of p slots e (at + boxed_size index) ++ x ∷ [])
       → Held taken at (boxed_taken p slots index [] ++ taken_of p slots e (boxed_kind p slots index ∷ []) ++ (kind_in p slots e.node ∷ boxed_kind p slots index ∷ []) ∷ [])
@@ -84,30 +87,36 @@ module _ (m : Module) (c : Code) (taken : Taken) (Ok : Instr → Type 0) (visibl
       let q = length-append one_t two_t in
       let q1 = boxed_many p slots index [] in
       let q2 = expr_many p slots e (k ∷ []) in
-      then_one m c taken Ok at (boxed_size index + size_of e) (one ++ two) (one_t ++ two_t) x (kind_in p slots e.node ∷ k ∷ []) [] (omega (arith, l, l1, l2)) (omega (arith, q, q1, q2)) plain in_range allowed
+      then_one m c taken Ok at (boxed_size index + size_of e) (one ++ two) (one_t ++ two_t) x (kind_in p slots e.node ∷ k ∷ []) [] (omega (arith, l, l1, l2)) (omega (arith, q, q1, q2)) plain in_range
+      allowed
       (ints_taken x k (kind_in p slots e.node) kind fits.1 leaves) (omega arith) h t end
       (λ h1 t1 there. then_piece m c taken Ok at (boxed_size index) one two one_t two_t (k ∷ []) l1 q1 h1 t1
       (λ tb. value_starts p slots taken e.node (at + boxed_size index) (k ∷ []) 0 t' tb)
       (λ ha ta begins. boxed_right m c taken Ok visible main permits long p slots index at [] 1 fit s (omega arith) ha ta begins)
-      (λ hb tb begins. value_right m c taken Ok visible main permits long p slots e.node (at + boxed_size index) (k ∷ []) 0 fits.0 t' (omega arith) hb tb (at_end taken (kind_in p slots e.node ∷ k ∷ []) (at + (boxed_size index + size_of e)) (at + boxed_size index + size_of e) (omega arith) there)))
+      (λ hb tb begins. value_right m c taken Ok visible main permits long p slots e.node (at + boxed_size index) (k ∷ []) 0 fits.0 t' (omega arith) hb tb
+      (at_end taken (kind_in p slots e.node ∷ k ∷ []) (at + (boxed_size index + size_of e)) (at + boxed_size index + size_of e) (omega arith) there)))
 
   pub set_right : (place : Place) (e : Expr) (at : ℕ) → SetFits m c Ok p slots place e → PlaceSpelled 0 place → ExprSpelled e
       → Held c.instrs at (set_code p slots place e at) → Held taken at (set_taken p slots place e) → KindsAt taken (at + (place_size place + size_of e + 1)) []
       → Right m c taken Ok at (set_code p slots place e at)
   set_right (Place' name None') e at fit s t' h t end =
       let sets = name_sets m c Ok p slots visible main permits (slot_of slots name.text) (declared (area_of p.shared name.text)) (kind_in p slots e.node) fit.1 in
-      expr_then e (store_instr (slot_of slots name.text) (declared (area_of p.shared name.text))) at t' sets.plain sets.in_range sets.allowed sets.leaves fit.0 h t (at_end taken [] (at + (0 + size_of e + 1)) (at + (size_of e + 1)) (omega arith) end)
+      expr_then e (store_instr (slot_of slots name.text) (declared (area_of p.shared name.text))) at t' sets.plain sets.in_range sets.allowed sets.leaves fit.0 h t
+      (at_end taken [] (at + (0 + size_of e + 1)) (at + (size_of e + 1)) (omega arith) end)
   set_right (Place' name (Some' shape index)) e at fit s t' h t end =
       let area = declared (area_of p.shared name.text) in
       item_then index e (i.SetItem area.first (unwrap_or area.items 0)) at fit.1 fit.2 fit.3 s t' tt fit.0.0 (permits.set_items area.first (unwrap_or area.items 0) fit.0.0 fit.0.1) refl h t end
 
-  add_right : (o : Option Slot) (area : Area) (at : ℕ) → AddFits m c Ok p o area → Held c.instrs at (add_code o area) → Held taken at (add_taken o) → KindsAt taken (at + add_size o) [] → Right m c taken Ok at (add_code o area)
+  add_right : (o : Option Slot) (area : Area) (at : ℕ) → AddFits m c Ok p o area → Held c.instrs at (add_code o area) → Held taken at (add_taken o) → KindsAt taken (at + add_size o) []
+      → Right m c taken Ok at (add_code o area)
   add_right (Some s) area at fit h t end =
       let within = slice_get_within c.locals s.number s.kind fit.0 in
       let third : at + 3 ≡ at + 1 + 1 + 1 = omega arith in (
-        falls m c taken Ok at (i.Load s.number) (ty.Int ∷ []) (s.kind ∷ ty.Int ∷ []) tt h.0 t.0 within (ap (λ (o : Option Ty). loads o (ty.Int ∷ [])) fit.0) (omega arith) (permits.loads s.number within) t.1.0,
+        falls m c taken Ok at (i.Load s.number) (ty.Int ∷ []) (s.kind ∷ ty.Int ∷ []) tt h.0 t.0 within (ap (λ (o : Option Ty). loads o (ty.Int ∷ [])) fit.0) (omega arith)
+            (permits.loads s.number within) t.1.0,
         (
-          falls m c taken Ok (at + 1) i.Add (s.kind ∷ ty.Int ∷ []) (ty.Int ∷ []) tt h.1.0 t.1.0 tt (subst (λ (x : Ty). after m c i.Add (x ∷ ty.Int ∷ []) ≡ Some (ty.Int ∷ [])) (sym fit.1) refl) (omega arith) (permits.plain i.Add tt) t.1.1.0,
+          falls m c taken Ok (at + 1) i.Add (s.kind ∷ ty.Int ∷ []) (ty.Int ∷ []) tt h.1.0 t.1.0 tt (subst (λ (x : Ty). after m c i.Add (x ∷ ty.Int ∷ []) ≡ Some (ty.Int ∷ [])) (sym fit.1) refl)
+              (omega arith) (permits.plain i.Add tt) t.1.1.0,
           (falls m c taken Ok (at + 1 + 1) (i.Store s.number) (ty.Int ∷ []) [] tt h.1.1.0 t.1.1.0 within (store_leaves m c Ok p slots (slice_get c.locals s.number) s.kind ty.Int fit.0 (sym fit.1)) (omega arith) (permits.stores s.number within) (at_end taken [] (at + 3) (at + 1 + 1 + 1) third end), tt),
         ),
       )
@@ -126,7 +135,8 @@ module _ (m : Module) (c : Code) (taken : Taken) (Ok : Instr → Type 0) (visibl
       let same : at + (size_of e + add_size o) ≡ at + size_of e + add_size o = omega arith in
       then_piece m c taken Ok at (size_of e) (code_of p slots e at) (add_code o area) (taken_of p slots e []) (add_taken o) (ty.Int ∷ []) (expr_length p slots e at) (expr_many p slots e []) h t
       (λ tb. add_begins o (at + size_of e) tb)
-      (λ ha ta begins. value_right m c taken Ok visible main permits long p slots e.node at [] 0 fit.0.0 t' (omega arith) ha ta (subst (λ (x : Ty). KindsAt taken (at + size_of e) (x ∷ [])) (sym fit.0.1) begins))
+      (λ ha ta begins. value_right m c taken Ok visible main permits long p slots e.node at [] 0 fit.0.0 t' (omega arith) ha ta
+      (subst (λ (x : Ty). KindsAt taken (at + size_of e) (x ∷ [])) (sym fit.0.1) begins))
       (λ hb tb begins. add_right o area (at + size_of e) fit.1 hb tb (at_end taken [] (at + (size_of e + add_size o)) (at + size_of e + add_size o) same end))
   add_to_right (Place' name (Some' shape index)) e slot at fit s t' h t end =
       let area = declared (area_of p.shared name.text) in
@@ -139,11 +149,13 @@ module _ (m : Module) (c : Code) (taken : Taken) (Ok : Instr → Type 0) (visibl
   value_returned k e at gives fit s h t end =
       let kind = kind_in p slots e.node in
       let last : at + (size_of e + 1) ≡ at + size_of e + 1 = omega arith in
-      then_piece m c taken Ok at (size_of e) (code_of p slots e at) (i.Return ∷ []) (taken_of p slots e []) ((kind ∷ []) ∷ []) (kind ∷ []) (expr_length p slots e at) (expr_many p slots e []) h t (λ tb. tb.0)
+      then_piece m c taken Ok at (size_of e) (code_of p slots e at) (i.Return ∷ []) (taken_of p slots e []) ((kind ∷ []) ∷ []) (kind ∷ []) (expr_length p slots e at) (expr_many p slots e []) h t
+      (λ tb. tb.0)
       (λ ha ta begins. value_right m c taken Ok visible main permits long p slots e.node at [] 0 fit.0 s (omega arith) ha ta begins)
       (λ hb tb begins. (
         returns m c taken Ok (at + size_of e) (kind ∷ []) begins
-            (ap (λ (l : Kinds). option_map (λ rest. rest) (below l (kind ∷ []))) gives ∙ ap (λ (x : Ty). option_map (λ rest. rest) (below (k ∷ []) (x ∷ []))) fit.1 ∙ ap (λ (o : Option Kinds). option_map (λ rest. rest) o) (below_one k []))
+            (ap (λ (l : Kinds). option_map (λ rest. rest) (below l (kind ∷ []))) gives ∙ ap (λ (x : Ty). option_map (λ rest. rest) (below (k ∷ []) (x ∷ []))) fit.1
+            ∙ ap (λ (o : Option Kinds). option_map (λ rest. rest) o) (below_one k []))
             (omega arith) (permits.plain i.Return tt) (λ within none. at_end taken [] (at + (size_of e + 1)) (at + size_of e + 1) last end),
         tt,
       ))
@@ -190,20 +202,25 @@ module _ (m : Module) (c : Code) (taken : Taken) (Ok : Instr → Type 0) (visibl
       (λ ha ta begins. call_right m c taken Ok visible main permits long p slots name args at fit fits s ha ta begins)
       (λ hb tb begins. drop_right g (at + (values_size args + 1)) hb tb end')
 
-  pub print_right : (items : List Item) (text at : ℕ) → ItemsFit m c Ok p slots items → length items ≤ 64 → Ok (i.Print (printed_items p slots items text)) → IsInRange m c (i.Print (printed_items p slots items text)) → ItemsSpelled items
-      → Held c.instrs at (items_code p slots items at ++ i.Print (printed_items p slots items text) ∷ []) → Held taken at (items_taken p slots items [] ++ (items_pushed p slots items []) ∷ []) → KindsAt taken (at + (items_size items + 1)) []
+  pub print_right : (items : List Item) (text at : ℕ) → ItemsFit m c Ok p slots items → length items ≤ 64 → Ok (i.Print (printed_items p slots items text))
+      → IsInRange m c (i.Print (printed_items p slots items text)) → ItemsSpelled items
+      → Held c.instrs at (items_code p slots items at ++ i.Print (printed_items p slots items text) ∷ []) → Held taken at (items_taken p slots items [] ++ (items_pushed p slots items []) ∷ [])
+      → KindsAt taken (at + (items_size items + 1)) []
       → Right m c taken Ok at (items_code p slots items at ++ i.Print (printed_items p slots items text) ∷ [])
   print_right items text at fit few allowed in_range s h t end =
       let many = pushed_items p slots items [] in
-      then_one m c taken Ok at (items_size items) (items_code p slots items at) (items_taken p slots items []) (i.Print (printed_items p slots items text)) (items_pushed p slots items []) [] (items_length p slots items at) (items_many p slots items []) tt in_range allowed
+      then_one m c taken Ok at (items_size items) (items_code p slots items at) (items_taken p slots items []) (i.Print (printed_items p slots items text)) (items_pushed p slots items []) []
+      (items_length p slots items at) (items_many p slots items []) tt in_range allowed
       (print_leaves m c Ok p slots items text) (omega (arith, many, few)) h t end
       (λ ha ta begins. items_right m c taken Ok visible main permits long p slots items at [] fit s (omega (arith, few)) ha ta begins)
 
   pub step_right : (blocks : List RoutineBlock) (first at : ℕ) → WidthsFit m c Ok p slots blocks → length blocks ≤ 64 → Ok (i.Par first (length blocks)) → WidthsSpelled blocks
-      → Held c.instrs at (widths_code p slots blocks at ++ i.Par first (length blocks) ∷ []) → Held taken at (widths_taken p slots blocks [] ++ (widths_pushed p slots blocks []) ∷ []) → KindsAt taken (at + (widths_size blocks + 1)) []
+      → Held c.instrs at (widths_code p slots blocks at ++ i.Par first (length blocks) ∷ []) → Held taken at (widths_taken p slots blocks [] ++ (widths_pushed p slots blocks []) ∷ [])
+      → KindsAt taken (at + (widths_size blocks + 1)) []
       → Right m c taken Ok at (widths_code p slots blocks at ++ i.Par first (length blocks) ∷ [])
   step_right blocks first at fit few allowed s h t end =
       let many = pushed_widths m c Ok p slots blocks fit in
-      then_one m c taken Ok at (widths_size blocks) (widths_code p slots blocks at) (widths_taken p slots blocks []) (i.Par first (length blocks)) (widths_pushed p slots blocks []) [] (widths_length p slots blocks at) (widths_many p slots blocks []) tt tt allowed
+      then_one m c taken Ok at (widths_size blocks) (widths_code p slots blocks at) (widths_taken p slots blocks []) (i.Par first (length blocks)) (widths_pushed p slots blocks []) []
+      (widths_length p slots blocks at) (widths_many p slots blocks []) tt tt allowed
       (step_leaves m c Ok p slots blocks first fit) (omega (arith, many, few)) h t end
       (λ ha ta begins. widths_right m c taken Ok visible main permits long p slots blocks at [] fit s (omega (arith, few)) ha ta begins)

@@ -34,7 +34,8 @@ kind_fits limit mark_token i h = tt
 parts : {bytes piece rest : List ℕ} {item : Item} → Longest bytes piece rest item → length piece + length rest ≡ length bytes
 parts {piece = piece} {rest = rest} l = omega (arith, ap (λ (x : List ℕ). length x) l.split, length-append piece rest)
 
-all_fit : {at : ℕ} {bytes : List ℕ} {o : Result (List Token) LexError} (limit : ℕ) → Reads at bytes o → length bytes ≤ limit → (tokens : List Token) → o ≡ Ok tokens → AllByRecursion (TokenFits limit) tokens
+all_fit : {at : ℕ} {bytes : List ℕ} {o : Result (List Token) LexError} (limit : ℕ) → Reads at bytes o → length bytes ≤ limit → (tokens : List Token) → o ≡ Ok tokens
+    → AllByRecursion (TokenFits limit) tokens
 all_fit {at = at} limit at_end h tokens e =
     let last : Token = record { at = at; kind = kind.End } in
     let same : last ∷ [] ≡ tokens = cc in

@@ -24,7 +24,8 @@ use Rattle.type_check.specs.declared.names.Declaration.TheVariants as declared
 use Rattle.type_check.specs.declared.names.Typed.{Typed}
 use Rattle.type_check.specs.declared.names.Typed.TheVariants as typed
 use Rattle.type_check.specs.Names.{Names, meant, of_ty, given, is_bad, same, wanted, as_scalar, as_array, as_call, use_faults, call_touches, params_of}
-use Rattle.type_check.specs.Expressions.{unary_operand, operands_fit, operand_faults, place_type, type_of, boxed, part_of, tally_faults, count_faults, node_faults, boxed_faults, place_faults, place_tally, call_faults, argument_faults, value_faults}
+use Rattle.type_check.specs.Expressions.{unary_operand, operands_fit, operand_faults, place_type, type_of, boxed, part_of, tally_faults, count_faults, node_faults, boxed_faults, place_faults}
+use Rattle.type_check.specs.Expressions.{place_tally, call_faults, argument_faults, value_faults}
 use Rattle.type_check.specs.Expressions as checked
 use Rattle.type_check.proofs.CleanLemmas.{none_in_first, none_in_second, none_if, wanted_same, operands_of, well_typed, box_well_typed}
 use Rattle.compiled_code.specs.Sizes.{given_by}
@@ -163,7 +164,8 @@ pub record Parts (body : Body) (names : Names) (name : Name) {n : _} (args : Row
   pub arguments : argument_faults body names (params_of (meant names name)) args ≡ []
 
 pub parts_of : (body : Body) (names : Names) (name : Name) {n : _} (args : Row_of-Expr n)
-    → use_faults name (meant names name) (as_call (meant names name)) ++ tally_faults body name (call_touches (meant names name)) ++ count_faults name (meant names name) (checked.count args) ++ argument_faults body names (params_of (meant names name)) args ≡ []
+    → use_faults name (meant names name) (as_call (meant names name)) ++ tally_faults body name (call_touches (meant names name)) ++ count_faults name (meant names name) (checked.count args)
+    ++ argument_faults body names (params_of (meant names name)) args ≡ []
     → Parts body names name args
 parts_of body names name args e =
     let used = use_faults name (meant names name) (as_call (meant names name)) in
@@ -189,13 +191,15 @@ module _ (p : Program) (body : Body) (names : Names) (knows : Knows p.functions 
         (call_is (Call' name shape args) e, (called p.functions name (meant names name) (count args) (λ d. knows name.text d) parts.used parts.counts).valued some)
     value_is (Unary' op shape a) e some =
         let clean = none_in_first (boxed_faults body names a) (wanted (unary_operand op) (boxed names a)) e in
-        let fits = wanted_same (unary_operand op) (boxed names a) (good_unary op) (box_well_typed body names a clean) (none_in_second (boxed_faults body names a) (wanted (unary_operand op) (boxed names a)) e) in
+        let fits = wanted_same (unary_operand op) (boxed names a) (good_unary op) (box_well_typed body names a clean)
+        (none_in_second (boxed_faults body names a) (wanted (unary_operand op) (boxed names a)) e) in
         boxed_is a clean (some_of (unary_operand op) (boxed names a).typed (some_unary op) fits)
     value_is (Binary' op shape a shape' b) e some =
         let clean = none_in_first (boxed_faults body names a ++ boxed_faults body names b) (operand_faults op (boxed names a) (boxed names b)) e in
         let clean_a = none_in_first (boxed_faults body names a) (boxed_faults body names b) clean in
         let clean_b = none_in_second (boxed_faults body names a) (boxed_faults body names b) clean in
-        let fits = operands_of op (boxed names a) (boxed names b) (box_well_typed body names a clean_a) (box_well_typed body names b clean_b) (none_in_second (boxed_faults body names a ++ boxed_faults body names b) (operand_faults op (boxed names a) (boxed names b)) e) in
+        let fits = operands_of op (boxed names a) (boxed names b) (box_well_typed body names a clean_a) (box_well_typed body names b clean_b)
+        (none_in_second (boxed_faults body names a ++ boxed_faults body names b) (operand_faults op (boxed names a) (boxed names b)) e) in
         let somes = operands_some op (boxed names a).typed (boxed names b).typed fits in
         (boxed_is a clean_a somes.0, boxed_is b clean_b somes.1)
     value_is (Paren' shape a) e some = boxed_is a e some
@@ -206,7 +210,8 @@ module _ (p : Program) (body : Body) (names : Names) (knows : Knows p.functions 
     place_is (Place' name (Some' shape i)) e =
         let clean = none_in_second (use_faults name (meant names name) (as_array (meant names name))) (boxed_faults body names i)
         (none_in_first (use_faults name (meant names name) (as_array (meant names name)) ++ boxed_faults body names i) (wanted typed.Int (boxed names i)) e) in
-        let fits = wanted_same typed.Int (boxed names i) refl (box_well_typed body names i clean) (none_in_second (use_faults name (meant names name) (as_array (meant names name)) ++ boxed_faults body names i) (wanted typed.Int (boxed names i)) e) in
+        let fits = wanted_same typed.Int (boxed names i) refl (box_well_typed body names i clean)
+        (none_in_second (use_faults name (meant names name) (as_array (meant names name)) ++ boxed_faults body names i) (wanted typed.Int (boxed names i)) e) in
         boxed_is i clean (some_of typed.Int (boxed names i).typed refl fits)
 
     -- a call
@@ -224,6 +229,9 @@ module _ (p : Program) (body : Body) (names : Names) (knows : Knows p.functions 
     values_are tys end_of-Expr e counts = tt
     values_are [] (more_of-Expr at node rest) e counts = absurd cc
     values_are (t ∷ tys) (more_of-Expr at node rest) e counts =
-        let clean = none_in_first (node_faults body names node) (wanted (of_ty t) (record { at = at; typed = type_of names node })) (none_in_first (node_faults body names node ++ wanted (of_ty t) (record { at = at; typed = type_of names node })) (argument_faults body names tys rest) e) in
-        let fits = wanted_same (of_ty t) (record { at = at; typed = type_of names node }) (good_ty t) (well_typed body names node clean) (none_in_second (node_faults body names node) (wanted (of_ty t) (record { at = at; typed = type_of names node })) (none_in_first (node_faults body names node ++ wanted (of_ty t) (record { at = at; typed = type_of names node })) (argument_faults body names tys rest) e)) in
+        let clean = none_in_first (node_faults body names node) (wanted (of_ty t) (record { at = at; typed = type_of names node }))
+        (none_in_first (node_faults body names node ++ wanted (of_ty t) (record { at = at; typed = type_of names node })) (argument_faults body names tys rest) e) in
+        let fits = wanted_same (of_ty t) (record { at = at; typed = type_of names node }) (good_ty t) (well_typed body names node clean)
+        (none_in_second (node_faults body names node) (wanted (of_ty t) (record { at = at; typed = type_of names node }))
+        (none_in_first (node_faults body names node ++ wanted (of_ty t) (record { at = at; typed = type_of names node })) (argument_faults body names tys rest) e)) in
         (value_is node clean (some_of (of_ty t) (type_of names node) (some_ty t) fits), values_are tys rest (none_in_second (node_faults body names node ++ wanted (of_ty t) (record { at = at; typed = type_of names node })) (argument_faults body names tys rest) e) (pred (count rest) (length tys) counts))

@@ -16,7 +16,8 @@ use Rattle.csl_tree.specs.declared.program.Item.{Item}
 use Rattle.csl_tree.specs.declared.program.Item.TheVariants as item
 use Rattle.csl_tree.specs.declared.program.Arm.{Arm'}
 use Rattle.csl_tree.specs.declared.program.RoutineBlock.{RoutineBlock, RoutineBlock'}
-use Rattle.csl_tree.specs.declared.program.Form.{Form, Declare, Set, AddTo, If', While', For', Break, Continue, Return, Assert, Block', Print, Par', Row_of-Arm, end_of-Arm, more_of-Arm, Row_of-Stmt, end_of-Stmt, more_of-Stmt, Held-Form-If-1, Row_of-RoutineBlock, end_of-RoutineBlock, more_of-RoutineBlock}
+use Rattle.csl_tree.specs.declared.program.Form.{Form, Declare, Set, AddTo, If', While', For', Break, Continue, Return, Assert, Block', Print, Par', Row_of-Arm, end_of-Arm, more_of-Arm, Row_of-Stmt}
+use Rattle.csl_tree.specs.declared.program.Form.{end_of-Stmt, more_of-Stmt, Held-Form-If-1, Row_of-RoutineBlock, end_of-RoutineBlock, more_of-RoutineBlock}
 use Rattle.csl_tree.specs.declared.program.Form as form
 use Rattle.csl_meaning.specs.declared.state.Area.{Area}
 use Rattle.csl_meaning.specs.Layout.{Text, area_of}
@@ -35,7 +36,8 @@ use Rattle.type_check.specs.Listed as listed
 use Rattle.type_check.specs.Names.{Names, meant, taken, declare, of_ty, given, same, wanted, some_value, as_scalar, as_array, use_faults}
 use Rattle.type_check.specs.Expressions.{place_type, boxed, place_tally, part_of, node_faults, boxed_faults, place_faults, value_faults}
 use Rattle.type_check.specs.Bodies.{locals_in_row, after, after_row}
-use Rattle.type_check.specs.Statements.{body_of, is_main, result_of, no_bool, return_faults, item_faults, item_at, blocks_at, too_many_locals, most_items, most_blocks, faults, row_faults, arm_faults, last_faults, block_faults}
+use Rattle.type_check.specs.Statements.{body_of, is_main, result_of, no_bool, return_faults, item_faults, item_at, blocks_at, too_many_locals, most_items, most_blocks, faults, row_faults, arm_faults}
+use Rattle.type_check.specs.Statements.{last_faults, block_faults}
 use Rattle.type_check.proofs.CleanLemmas.{none_in_first, none_in_second, none_if, place_well_typed}
 use Rattle.type_check.proofs.Facts.{within}
 use Rattle.bytecode.specs.declared.instr.Instr.{Instr}
@@ -45,7 +47,8 @@ use Rattle.bytecode.specs.declared.module.Code.{Code}
 use Rattle.bytecode.specs.declared.module.Module.{Module}
 use Rattle.code_verify.specs.Rules.{HasText}
 use Rattle.compiled_code.specs.Slots.{Slot, Slots, slot_of}
-use Rattle.compiled_code.specs.Sizes.{size_of, kinds_in, kinds_in_row, kinds_in_arms, kinds_in_last, item_texts, texts_in, texts_in_row, texts_in_arms, texts_in_last, steps_in, steps_in_row, steps_in_arms, steps_in_last}
+use Rattle.compiled_code.specs.Sizes.{size_of, kinds_in, kinds_in_row, kinds_in_arms, kinds_in_last, item_texts, texts_in, texts_in_row, texts_in_arms, texts_in_last, steps_in, steps_in_row}
+use Rattle.compiled_code.specs.Sizes.{steps_in_arms, steps_in_last}
 use Rattle.compiled_code.specs.Places.{slots_after, slots_after_row}
 use Rattle.compiled_code.specs.Values.{kind_in}
 use Rattle.compiled_code.specs.Modules.{gives_of}
@@ -74,7 +77,8 @@ room_empty main m at t t' b b' no_text no_block room is =
     (omega (arith, one, l), omega (arith, two, k))
 
 -- nor do they behind others
-room_end : (main : Bool) (m : Module) (at later : At) (t t' : List Text) (b b' : List RoutineBlock) → t' ≡ [] → b' ≡ [] → later.text ≡ at.text + length t → later.block ≡ at.block + length b → Room main m at t b → Room main m later t' b'
+room_end : (main : Bool) (m : Module) (at later : At) (t t' : List Text) (b b' : List RoutineBlock) → t' ≡ [] → b' ≡ [] → later.text ≡ at.text + length t → later.block ≡ at.block + length b
+    → Room main m at t b → Room main m later t' b'
 room_end main m at later t t' b b' no_text no_block text block room is =
     let one = (room is).0 in
     let two = (room is).1 in
@@ -91,7 +95,8 @@ room_front main m at t t' b b' room is =
     (omega (arith, one, l), omega (arith, two, k))
 
 -- behind the texts and the blocks in front
-room_back : (main : Bool) (m : Module) (at later : At) (t t' : List Text) (b b' : List RoutineBlock) → later.text ≡ at.text + length t → later.block ≡ at.block + length b → Room main m at (t ++ t') (b ++ b') → Room main m later t' b'
+room_back : (main : Bool) (m : Module) (at later : At) (t t' : List Text) (b b' : List RoutineBlock) → later.text ≡ at.text + length t → later.block ≡ at.block + length b
+    → Room main m at (t ++ t') (b ++ b') → Room main m later t' b'
 room_back main m at later t t' b b' text block room is =
     let one = (room is).0 in
     let two = (room is).1 in
@@ -100,7 +105,8 @@ room_back main m at later t t' b b' text block room is =
     (omega (arith, one, l, text), omega (arith, two, k, block))
 
 -- where nothing is printed and no step opened in between
-room_same : (main : Bool) (m : Module) (at later : At) (t t' : List Text) (b b' : List RoutineBlock) → t' ≡ [] → b' ≡ [] → later.text ≡ at.text + length t' → later.block ≡ at.block + length b' → Room main m at t b → Room main m later t b
+room_same : (main : Bool) (m : Module) (at later : At) (t t' : List Text) (b b' : List RoutineBlock) → t' ≡ [] → b' ≡ [] → later.text ≡ at.text + length t' → later.block ≡ at.block + length b'
+    → Room main m at t b → Room main m later t b
 room_same main m at later t t' b b' no_text no_block text block room is =
     let one = (room is).0 in
     let two = (room is).1 in
@@ -157,7 +163,8 @@ printed_length p slots (item.Text name ∷ rest) text = ap suc (printed_length p
 printed_length p slots (item.Value e ∷ rest) text = ap suc (printed_length p slots rest text)
 
 -- the texts of a line are texts of the module
-have_texts : (p : Program) (m : Module) (slots : Slots) (items : List Item) (text : ℕ) → text + length (item_texts items) ≤ length m.texts → AllByRecursion (HasText m) (printed_items p slots items text)
+have_texts : (p : Program) (m : Module) (slots : Slots) (items : List Item) (text : ℕ) → text + length (item_texts items) ≤ length m.texts
+    → AllByRecursion (HasText m) (printed_items p slots items text)
 have_texts p m slots [] text few = tt
 have_texts p m slots (item.Text name ∷ rest) text few = (omega (arith, few), have_texts p m slots rest (text + 1) (omega (arith, few)))
 have_texts p m slots (item.Value e ∷ rest) text few = (by (kind_in p slots e.node), have_texts p m slots rest text few)
@@ -179,7 +186,8 @@ is_true false e = cc
 module _ (p : Program) (m : Module) (c : Code) (visible : ℕ) (main : Bool) (Ok : Instr → Type 0) (permits : Permits m c visible main Ok) (body : Body) where
   module _ (names : Names) (slots : Slots) (agrees : Agrees p m c visible names slots) where
     -- a name that is set
-    store_fits : (name : Name) (o : Option Declaration) (k : Ty) → Means p m c visible slots name.text o → use_faults name o (as_scalar o) ≡ [] → IsKind (as_scalar o) k → StoreFits m c Ok p (slot_of slots name.text) (declared_area (area_of p.shared name.text)) k
+    store_fits : (name : Name) (o : Option Declaration) (k : Ty) → Means p m c visible slots name.text o → use_faults name o (as_scalar o) ≡ [] → IsKind (as_scalar o) k
+        → StoreFits m c Ok p (slot_of slots name.text) (declared_area (area_of p.shared name.text)) k
     store_fits name None k h e kind = absurd cc
     store_fits name (Some declared.Word) k h e kind =
         let word = h.1 in
@@ -195,7 +203,8 @@ module _ (p : Program) (m : Module) (c : Code) (visible : ℕ) (main : Bool) (Ok
     store_fits name (Some (declared.Function d)) k h e kind = absurd cc
 
     -- a name that is added to
-    add_fits : (name : Name) (o : Option Declaration) (k : Ty) → Means p m c visible slots name.text o → use_faults name o (as_scalar o) ≡ [] → same typed.Bool (as_scalar o) ≡ false → IsKind (as_scalar o) k
+    add_fits : (name : Name) (o : Option Declaration) (k : Ty) → Means p m c visible slots name.text o → use_faults name o (as_scalar o) ≡ [] → same typed.Bool (as_scalar o) ≡ false
+        → IsKind (as_scalar o) k
         → (k ≡ type.Int) × AddFits m c Ok p (slot_of slots name.text) (declared_area (area_of p.shared name.text))
     add_fits name None k h e int kind = absurd cc
     add_fits name (Some declared.Word) k h e int kind =
@@ -232,10 +241,12 @@ module _ (p : Program) (m : Module) (c : Code) (visible : ℕ) (main : Bool) (Ok
         let first_two = none_in_first (place_faults body names place ++ middle) (value_faults body names (place_type names place) e) h in (
           none_in_first (place_faults body names place) middle first_two,
           none_in_second (place_faults body names place) middle first_two,
-          expr_fits p m c visible names slots agrees main Ok permits body (place_type names place) e (place_well_typed body names place middle first_two) (none_in_second (place_faults body names place ++ middle) (value_faults body names (place_type names place) e) h) is,
+          expr_fits p m c visible names slots agrees main Ok permits body (place_type names place) e (place_well_typed body names place middle first_two)
+              (none_in_second (place_faults body names place ++ middle) (value_faults body names (place_type names place) e) h) is,
         )
 
-    set_fits : (place : Place) (e : Expr) → place_faults body names place ++ place_tally body names place ++ value_faults body names (place_type names place) e ≡ [] → PlaceIs p place → ValueIs p e.node → SetFits m c Ok p slots place e
+    set_fits : (place : Place) (e : Expr) → place_faults body names place ++ place_tally body names place ++ value_faults body names (place_type names place) e ≡ [] → PlaceIs p place
+        → ValueIs p e.node → SetFits m c Ok p slots place e
     set_fits (Place' name None') e h place_is is =
         let parts = place_value (Place' name None') e (place_tally body names (Place' name None')) h is in
         (parts.2.0, store_fits name (meant names name) (kind_in p slots e.node) (agrees name.text) parts.0 parts.2.1)
@@ -244,13 +255,17 @@ module _ (p : Program) (m : Module) (c : Code) (visible : ℕ) (main : Bool) (Ok
         let items = index_fits p m c visible names slots agrees main Ok permits body name index parts.0 place_is in
         (items.0, items.1, items.2, (parts.2.0, item_kind name (meant names name) (kind_in p slots e.node) (used index parts.0) parts.2.1))
       where
-        used : {n : _} (row : Row_of-Expr n) → use_faults name (meant names name) (as_array (meant names name)) ++ boxed_faults body names row ++ wanted typed.Int (boxed names row) ≡ [] → use_faults name (meant names name) (as_array (meant names name)) ≡ []
-        used row h' = none_in_first (use_faults name (meant names name) (as_array (meant names name))) (boxed_faults body names row) (none_in_first (use_faults name (meant names name) (as_array (meant names name)) ++ boxed_faults body names row) (wanted typed.Int (boxed names row)) h')
+        used : {n : _} (row : Row_of-Expr n) → use_faults name (meant names name) (as_array (meant names name)) ++ boxed_faults body names row ++ wanted typed.Int (boxed names row) ≡ []
+            → use_faults name (meant names name) (as_array (meant names name)) ≡ []
+        used row h' = none_in_first (use_faults name (meant names name) (as_array (meant names name))) (boxed_faults body names row)
+            (none_in_first (use_faults name (meant names name) (as_array (meant names name)) ++ boxed_faults body names row) (wanted typed.Int (boxed names row)) h')
 
-    add_to_fits : (place : Place) (e : Expr) → place_faults body names place ++ no_bool names place ++ value_faults body names (place_type names place) e ≡ [] → PlaceIs p place → ValueIs p e.node → AddToFits m c Ok p slots place e
+    add_to_fits : (place : Place) (e : Expr) → place_faults body names place ++ no_bool names place ++ value_faults body names (place_type names place) e ≡ [] → PlaceIs p place → ValueIs p e.node
+        → AddToFits m c Ok p slots place e
     add_to_fits (Place' name None') e h place_is is =
         let parts = place_value (Place' name None') e (no_bool names (Place' name None')) h is in
-        let fits = add_fits name (meant names name) (kind_in p slots e.node) (agrees name.text) parts.0 (none_if (same typed.Bool (as_scalar (meant names name))) WrongType name.at parts.1) parts.2.1 in
+        let fits = add_fits name (meant names name) (kind_in p slots e.node) (agrees name.text) parts.0 (none_if (same typed.Bool (as_scalar (meant names name))) WrongType name.at parts.1)
+        parts.2.1 in
         ((parts.2.0, fits.0), fits.1)
     add_to_fits (Place' name (Some' shape index)) e h place_is is = set_fits (Place' name (Some' shape index)) e h place_is is
 
@@ -312,7 +327,8 @@ module _ (p : Program) (m : Module) (c : Code) (visible : ℕ) (main : Bool) (Ok
         let few_printed : length (printed_items p slots items at.text) ≤ 64 = omega (arith, few, k) in
         (line_fits names slots agrees items (none_in_second only (item_faults body names items) first_two) is, few, texts, permits.prints mains (printed_items p slots items at.text) few_printed texts)
 
-    step_fits : {n : _} (names : Names) (slots : Slots) → Agrees p m c visible names slots → (at : At) (where' : ℕ) (blocks : Row_of-RoutineBlock n) → Room main m at [] (blocks_in blocks) → BlocksAre p blocks → 1 ≤ length (blocks_in blocks)
+    step_fits : {n : _} (names : Names) (slots : Slots) → Agrees p m c visible names slots → (at : At) (where' : ℕ) (blocks : Row_of-RoutineBlock n) → Room main m at [] (blocks_in blocks)
+        → BlocksAre p blocks → 1 ≤ length (blocks_in blocks)
         → (if is_main body then (block_faults globals body names blocks ++ listed.beyond most_blocks (blocks_at blocks)) else fault OnlyInMain where') ≡ []
         → WidthsFit m c Ok p slots (blocks_in blocks) × (length (blocks_in blocks) ≤ 64) × Ok (i.Par at.block (length (blocks_in blocks)))
     step_fits names slots agrees at where' blocks room is some h = by (is_main body) refl h
@@ -329,7 +345,8 @@ module _ (p : Program) (m : Module) (c : Code) (visible : ℕ) (main : Bool) (Ok
 
     mutual
       -- a statement
-      pub form_fits : (looped : Bool) (names : Names) (slots : Slots) (at : At) (where' : ℕ) (f : Form) → Agrees p m c visible names slots → Stand c.locals at.slot (kinds_in f) → Room main m at (texts_in f) (steps_in f)
+      pub form_fits : (looped : Bool) (names : Names) (slots : Slots) (at : At) (where' : ℕ) (f : Form) → Agrees p m c visible names slots → Stand c.locals at.slot (kinds_in f)
+          → Room main m at (texts_in f) (steps_in f)
           → FormIs p f → FormSpelled f → faults globals (here looped) names where' f ≡ [] → FormFits m c Ok p slots at f
       form_fits looped names slots at where' (Declare t name e) agrees there room is spelled h =
           let value = expr_fits p m c visible names slots agrees main Ok permits body (of_ty t) e (good_ty t) (none_in_first (value_faults body names (of_ty t) e) (taken names name) h) is in
@@ -346,7 +363,8 @@ module _ (p : Program) (m : Module) (c : Code) (visible : ℕ) (main : Bool) (Ok
       )
       form_fits looped names slots at where' (While' test shape inner) agrees there room is spelled h = (
         test_fits names slots agrees test (none_in_first (value_faults body names typed.Bool test) (row_faults globals (here true) names inner) h) is.0,
-        row_fits true names slots (past p at (size_of test + 1)) inner agrees there room is.1 spelled.1 (none_in_second (value_faults body names typed.Bool test) (row_faults globals (here true) names inner) h),
+        row_fits true names slots (past p at (size_of test + 1)) inner agrees there room is.1 spelled.1
+            (none_in_second (value_faults body names typed.Bool test) (row_faults globals (here true) names inner) h),
       )
       form_fits looped names slots at where' (For' shape first test shape' next' shape'' inner) agrees there room is spelled h =
           let inside = after_row names first in
@@ -369,7 +387,8 @@ module _ (p : Program) (m : Module) (c : Code) (visible : ℕ) (main : Bool) (Ok
             row_fits looped names slots at first agrees first_there
                 (room_empty main m at (texts_in_row inner) (texts_in_row first) (steps_in_row inner) (steps_in_row first) no_text no_step room) is.1 spelled.0 first_one,
             test_fits inside inside_slots inside_agrees test (none_in_second one two first_two) is.2,
-            row_fits true inside inside_slots begin inner inside_agrees (stand_back c.locals at.slot (kinds_in_row first) (kinds_in_row inner) there) body_room is.5 spelled.3 (none_in_second (one ++ two ++ three) four h),
+            row_fits true inside inside_slots begin inner inside_agrees (stand_back c.locals at.slot (kinds_in_row first) (kinds_in_row inner) there) body_room is.5 spelled.3
+                (none_in_second (one ++ two ++ three) four h),
             row_fits looped inside inside_slots step next' inside_agrees (subst (λ (ks : List Ty). Stand c.locals step.slot ks) (sym (change_kinds next' is.3)) tt)
                 (room_end main m begin step (texts_in_row inner) (texts_in_row next') (steps_in_row inner) (steps_in_row next') (change_texts next' is.3) (change_steps next' is.3) refl refl body_room)
                 is.4 spelled.2 (none_in_second (one ++ two) three first_three),
@@ -385,21 +404,24 @@ module _ (p : Program) (m : Module) (c : Code) (visible : ℕ) (main : Bool) (Ok
       form_fits looped names slots at where' (Par' shape blocks) agrees there room is spelled h = step_fits names slots agrees at where' blocks room is spelled.0 h
 
       -- the statements of a row
-      pub row_fits : {n : _} (looped : Bool) (names : Names) (slots : Slots) (at : At) (row : Row_of-Stmt n) → Agrees p m c visible names slots → Stand c.locals at.slot (kinds_in_row row) → Room main m at (texts_in_row row) (steps_in_row row)
+      pub row_fits : {n : _} (looped : Bool) (names : Names) (slots : Slots) (at : At) (row : Row_of-Stmt n) → Agrees p m c visible names slots → Stand c.locals at.slot (kinds_in_row row)
+          → Room main m at (texts_in_row row) (steps_in_row row)
           → RowIs p row → RowSpelled row → row_faults globals (here looped) names row ≡ [] → RowFits m c Ok p slots at row
       row_fits looped names slots at end_of-Stmt agrees there room is spelled h = tt
       row_fits looped names slots at (more_of-Stmt where' f rest) agrees there room is spelled h =
           let own = none_in_first (faults globals (here looped) names where' f) (row_faults globals (here looped) (after names f) rest) h in
           let own_there = stand_front c.locals at.slot (kinds_in f) (kinds_in_row rest) there in (
             form_fits looped names slots at where' f agrees own_there (room_front main m at (texts_in f) (texts_in_row rest) (steps_in f) (steps_in_row rest) room) is.0 spelled.0 own,
-            row_fits looped (after names f) (slots_after slots at.slot f) (beyond p slots at f) rest (after_agrees p m c visible globals (here looped) names slots where' at.slot f agrees own own_there)
+            row_fits looped (after names f) (slots_after slots at.slot f) (beyond p slots at f) rest
+                (after_agrees p m c visible globals (here looped) names slots where' at.slot f agrees own own_there)
                 (stand_back c.locals at.slot (kinds_in f) (kinds_in_row rest) there)
                 (room_back main m at (beyond p slots at f) (texts_in f) (texts_in_row rest) (steps_in f) (steps_in_row rest) refl refl room) is.1 spelled.1
                 (none_in_second (faults globals (here looped) names where' f) (row_faults globals (here looped) (after names f) rest) h),
           )
 
       -- the arms of an `if`
-      pub arms_fit : {n : _} (looped : Bool) (names : Names) (slots : Slots) (at : At) (arms : Row_of-Arm n) → Agrees p m c visible names slots → Stand c.locals at.slot (kinds_in_arms arms) → Room main m at (texts_in_arms arms) (steps_in_arms arms)
+      pub arms_fit : {n : _} (looped : Bool) (names : Names) (slots : Slots) (at : At) (arms : Row_of-Arm n) → Agrees p m c visible names slots → Stand c.locals at.slot (kinds_in_arms arms)
+          → Room main m at (texts_in_arms arms) (steps_in_arms arms)
           → ArmsAre p arms → ArmsSpelled arms → arm_faults globals (here looped) names arms ≡ [] → ArmsFit m c Ok p slots at arms
       arms_fit looped names slots at end_of-Arm agrees there room is spelled h = tt
       arms_fit looped names slots at (more_of-Arm (Arm' test shape inner) rest) agrees there room is spelled h =
@@ -417,7 +439,8 @@ module _ (p : Program) (m : Module) (c : Code) (visible : ℕ) (main : Bool) (Ok
           )
 
       -- the last block of an `if`
-      pub last_fits : (looped : Bool) (names : Names) (slots : Slots) (at : At) (last : Held-Form-If-1) → Agrees p m c visible names slots → Stand c.locals at.slot (kinds_in_last last) → Room main m at (texts_in_last last) (steps_in_last last)
+      pub last_fits : (looped : Bool) (names : Names) (slots : Slots) (at : At) (last : Held-Form-If-1) → Agrees p m c visible names slots → Stand c.locals at.slot (kinds_in_last last)
+          → Room main m at (texts_in_last last) (steps_in_last last)
           → LastIs p last → LastSpelled last → last_faults globals (here looped) names last ≡ [] → LastFits m c Ok p slots at last
       last_fits looped names slots at form.None' agrees there room is spelled h = tt
       last_fits looped names slots at (form.Some' shape inner) agrees there room is spelled h = row_fits looped names slots at inner agrees there room is spelled h

@@ -28,7 +28,8 @@ use Rattle.type_check.specs.declared.names.Part.{Part}
 use Rattle.type_check.specs.declared.names.Typed.{Typed}
 use Rattle.type_check.specs.declared.names.Typed.TheVariants as typed
 use Rattle.type_check.specs.Names.{Names, meant, of_ty, given, is_bad, same, wanted, as_scalar, as_array, as_call, use_faults, call_touches, params_of}
-use Rattle.type_check.specs.Expressions.{unary_operand, gives_type, operands_fit, operand_faults, place_type, call_type, type_of, boxed, part_of, tally_faults, count_faults, node_faults, boxed_faults, place_faults, place_tally, call_faults, argument_faults, value_faults}
+use Rattle.type_check.specs.Expressions.{unary_operand, gives_type, operands_fit, operand_faults, place_type, call_type, type_of, boxed, part_of, tally_faults, count_faults, node_faults, boxed_faults}
+use Rattle.type_check.specs.Expressions.{place_faults, place_tally, call_faults, argument_faults, value_faults}
 use Rattle.type_check.specs.Expressions as checked
 use Rattle.type_check.proofs.CleanLemmas.{none_in_first, none_in_second, none_if, wanted_same, operands_of, well_typed, box_well_typed}
 use Rattle.bytecode.specs.declared.instr.Instr.{Instr}
@@ -224,7 +225,8 @@ module _ (p : Program) (m : Module) (c : Code) (visible : ℕ) (names : Names) (
 
   module _ (main : Bool) (Ok : Instr → Type 0) (permits : Permits m c visible main Ok) (body : Body) where
     -- a name that is read
-    read_fits : (name : Name) (o : Option Declaration) → Means p m c visible slots name.text o → use_faults name o (as_scalar o) ≡ [] → ReadFits m c Ok p (slot_of slots name.text) (declared_area (area_of p.shared name.text))
+    read_fits : (name : Name) (o : Option Declaration) → Means p m c visible slots name.text o → use_faults name o (as_scalar o) ≡ []
+        → ReadFits m c Ok p (slot_of slots name.text) (declared_area (area_of p.shared name.text))
     read_fits name None h e = absurd cc
     read_fits name (Some declared.Word) h e =
         let word = h.1 in
@@ -253,7 +255,8 @@ module _ (p : Program) (m : Module) (c : Code) (visible : ℕ) (names : Names) (
     items_fit name (Some (declared.Function d)) h e = absurd cc
 
     -- a call whose arguments are of the kinds of the parameters
-    called_fits : {n : _} (name : Name) (args : Row_of-Expr n) (o : Option Declaration) → Means p m c visible slots name.text o → use_faults name o (as_call o) ≡ [] → count args ≡ length (params_of o) → kinds_of_row p slots args ≡ map kind_of (params_of o) → CallFits m c Ok p slots name args
+    called_fits : {n : _} (name : Name) (args : Row_of-Expr n) (o : Option Declaration) → Means p m c visible slots name.text o → use_faults name o (as_call o) ≡ [] → count args ≡ length (params_of o)
+        → kinds_of_row p slots args ≡ map kind_of (params_of o) → CallFits m c Ok p slots name args
     called_fits name args None h e counts kinds = absurd cc
     called_fits name args (Some declared.Word) h e counts kinds = absurd cc
     called_fits name args (Some declared.Tally) h e counts kinds = absurd cc
@@ -296,13 +299,15 @@ module _ (p : Program) (m : Module) (c : Code) (visible : ℕ) (names : Names) (
           (called_fits name args (meant names name) (agrees name.text) parts.used counts fits.1, fits.0, is.1)
       value_fits (Unary' op shape a) e is =
           let clean = none_in_first (boxed_faults body names a) (wanted (unary_operand op) (boxed names a)) e in
-          let fits = wanted_same (unary_operand op) (boxed names a) (good_unary op) (box_well_typed body names a clean) (none_in_second (boxed_faults body names a) (wanted (unary_operand op) (boxed names a)) e) in
+          let fits = wanted_same (unary_operand op) (boxed names a) (good_unary op) (box_well_typed body names a clean)
+          (none_in_second (boxed_faults body names a) (wanted (unary_operand op) (boxed names a)) e) in
           (boxed_fits a clean is, unary_is op (boxed_kind p slots a) (kind_wanted (unary_operand op) (boxed names a).typed (boxed_kind p slots a) fits (box_kind a)))
       value_fits (Binary' op shape a shape' b) e is =
           let clean = none_in_first (boxed_faults body names a ++ boxed_faults body names b) (operand_faults op (boxed names a) (boxed names b)) e in
           let clean_a = none_in_first (boxed_faults body names a) (boxed_faults body names b) clean in
           let clean_b = none_in_second (boxed_faults body names a) (boxed_faults body names b) clean in
-          let fits = operands_of op (boxed names a) (boxed names b) (box_well_typed body names a clean_a) (box_well_typed body names b clean_b) (none_in_second (boxed_faults body names a ++ boxed_faults body names b) (operand_faults op (boxed names a) (boxed names b)) e) in
+          let fits = operands_of op (boxed names a) (boxed names b) (box_well_typed body names a clean_a) (box_well_typed body names b clean_b)
+          (none_in_second (boxed_faults body names a ++ boxed_faults body names b) (operand_faults op (boxed names a) (boxed names b)) e) in
           (boxed_fits a clean_a is.0, boxed_fits b clean_b is.1, operands_are op (boxed names a).typed (boxed names b).typed (boxed_kind p slots a) (boxed_kind p slots b) fits (box_kind a) (box_kind b))
       value_fits (Paren' shape a) e is = boxed_fits a e is
 
@@ -318,7 +323,8 @@ module _ (p : Program) (m : Module) (c : Code) (visible : ℕ) (names : Names) (
       boxed_fits (more_of-Expr at node rest) e is = value_fits node e is
 
       -- arguments, which are of the kinds of the parameters
-      pub values_fit : {n : _} (tys : List Ty) (r : Row_of-Expr n) → argument_faults body names tys r ≡ [] → count r ≡ length tys → ValuesAre p r → ValuesFit m c Ok p slots r × (kinds_of_row p slots r ≡ map kind_of tys)
+      pub values_fit : {n : _} (tys : List Ty) (r : Row_of-Expr n) → argument_faults body names tys r ≡ [] → count r ≡ length tys → ValuesAre p r
+          → ValuesFit m c Ok p slots r × (kinds_of_row p slots r ≡ map kind_of tys)
       values_fit [] end_of-Expr e counts is = (tt, refl)
       values_fit (t ∷ tys) end_of-Expr e counts is = absurd cc
       values_fit [] (more_of-Expr at node rest) e counts is = absurd cc
@@ -332,13 +338,15 @@ module _ (p : Program) (m : Module) (c : Code) (visible : ℕ) (names : Names) (
           ((value_fits node clean is.0, more.0), (λ i. kind i ∷ more.1 i))
 
     -- an array and its index
-    pub index_fits : {n : _} (name : Name) (i : Row_of-Expr n) → use_faults name (meant names name) (as_array (meant names name)) ++ boxed_faults body names i ++ wanted typed.Int (boxed names i) ≡ [] → BoxedIs p i
+    pub index_fits : {n : _} (name : Name) (i : Row_of-Expr n) → use_faults name (meant names name) (as_array (meant names name)) ++ boxed_faults body names i ++ wanted typed.Int (boxed names i) ≡ []
+        → BoxedIs p i
         → IsItems m c Ok p (declared_area (area_of p.shared name.text)) × BoxedFits m c Ok p slots i × (boxed_kind p slots i ≡ ty.Int)
     index_fits name i e is = let parts = index_parts name i e in (parts.1.0, boxed_fits i parts.0 is, parts.1.1)
 
     -- a call
     pub call_fits : {n : _} (name : Name) (args : Row_of-Expr n)
-        → use_faults name (meant names name) (as_call (meant names name)) ++ tally_faults body name (call_touches (meant names name)) ++ count_faults name (meant names name) (checked.count args) ++ argument_faults body names (params_of (meant names name)) args ≡ []
+        → use_faults name (meant names name) (as_call (meant names name)) ++ tally_faults body name (call_touches (meant names name)) ++ count_faults name (meant names name) (checked.count args)
+        ++ argument_faults body names (params_of (meant names name)) args ≡ []
         → ValuesAre p args → CallFits m c Ok p slots name args × ValuesFit m c Ok p slots args
     call_fits name args e is =
         let parts = parts_of body names name args e in

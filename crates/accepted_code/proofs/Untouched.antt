@@ -1,5 +1,6 @@
 -- The routine blocks of an accepted program neither read nor set a tally word, themselves or through their calls.
-use Rattle.std.proofs.Common.{◌≡◌, ℕ, zero, suc, ◌<◌, Bool, true, false, if◌then◌else◌, List, [], ◌∷◌, ◌++◌, length, map, Option, Some, None, refl, sym, ap, ◌∙◌, subst, arith, append_assoc, length-append}
+use Rattle.std.proofs.Common.{◌≡◌, ℕ, zero, suc, ◌<◌, Bool, true, false, if◌then◌else◌, List, [], ◌∷◌, ◌++◌, length, map, Option, Some, None, refl, sym, ap, ◌∙◌, subst, arith, append_assoc}
+use Rattle.std.proofs.Common.{length-append}
 use Rattle.std.specs.Prelude.{slice_get, is_some}
 use Rattle.std.specs.List.{AllByRecursion, list_any}
 use Rattle.std.specs.Str.{bytes_eq}
@@ -12,7 +13,8 @@ use Rattle.cal_terms.specs.declared.types.Gives.TheVariants as gives
 use Rattle.cal_terms.specs.declared.types.Ty.TheVariants as type
 use Rattle.csl_tree.specs.declared.program.Arm.{Arm'}
 use Rattle.csl_tree.specs.declared.program.RoutineBlock.{RoutineBlock, RoutineBlock'}
-use Rattle.csl_tree.specs.declared.program.Form.{Form, If', While', For', Block', Par', Row_of-Arm, end_of-Arm, more_of-Arm, Row_of-Stmt, end_of-Stmt, more_of-Stmt, Held-Form-If-1, Row_of-RoutineBlock, end_of-RoutineBlock, more_of-RoutineBlock}
+use Rattle.csl_tree.specs.declared.program.Form.{Form, If', While', For', Block', Par', Row_of-Arm, end_of-Arm, more_of-Arm, Row_of-Stmt, end_of-Stmt, more_of-Stmt, Held-Form-If-1}
+use Rattle.csl_tree.specs.declared.program.Form.{Row_of-RoutineBlock, end_of-RoutineBlock, more_of-RoutineBlock}
 use Rattle.csl_tree.specs.declared.program.Form as form
 use Rattle.csl_tree.specs.declared.program.Form.TheVariants as variant
 use Rattle.csl_meaning.specs.Layout.{Text}
@@ -76,7 +78,8 @@ number_behind : (fs rest : List Function) (f : Function) (t : Text) → function
 number_behind [] rest f t none is = ap (λ (b : Bool). if b then 0 else suc (function_number rest t)) is
 number_behind (g ∷ fs) rest f t none is = by (bytes_eq g.name.text t) none (λ none'. number_behind fs rest f t none' is)
   where
-    by : (b : Bool) → (if b then Some g else function_named fs t) ≡ None → (function_named fs t ≡ None → function_number (fs ++ f ∷ rest) t ≡ length fs) → (if b then 0 else suc (function_number (fs ++ f ∷ rest) t)) ≡ suc (length fs)
+    by : (b : Bool) → (if b then Some g else function_named fs t) ≡ None → (function_named fs t ≡ None → function_number (fs ++ f ∷ rest) t ≡ length fs)
+        → (if b then 0 else suc (function_number (fs ++ f ∷ rest) t)) ≡ suc (length fs)
     by true h go = absurd (never h)
       where
         never : Some g ≡ None → ⊥
@@ -118,11 +121,13 @@ module _ (globals : Names) where
         (arms_clean arms here names (none_in_first (arm_faults globals here names arms) (last_faults globals here names last) e))
         (last_clean last here names (none_in_second (arm_faults globals here names arms) (last_faults globals here names last) e))
     steps_clean (While' test shape statements) here names at e = row_clean statements (in_loop here) names (none_in_second _ (row_faults globals (in_loop here) names statements) e)
-    steps_clean (For' shape first test shape' next' shape'' statements) here names at e = row_clean statements (in_loop here) (after_row names first) (none_in_second _ (row_faults globals (in_loop here) (after_row names first) statements) e)
+    steps_clean (For' shape first test shape' next' shape'' statements) here names at e = row_clean statements (in_loop here) (after_row names first)
+        (none_in_second _ (row_faults globals (in_loop here) (after_row names first) statements) e)
     steps_clean (Block' shape statements) here names at e = row_clean statements here names e
     steps_clean (Par' shape blocks) here names at e = blocks_clean blocks here.body names (only_main (is_main here.body) e)
       where
-        only_main : (b : Bool) → (if b then (block_faults globals here.body names blocks ++ beyond most_blocks (blocks_at blocks)) else fault OnlyInMain at) ≡ [] → block_faults globals here.body names blocks ≡ []
+        only_main : (b : Bool) → (if b then (block_faults globals here.body names blocks ++ beyond most_blocks (blocks_at blocks)) else fault OnlyInMain at) ≡ []
+            → block_faults globals here.body names blocks ≡ []
         only_main true h = none_in_first (block_faults globals here.body names blocks) (beyond most_blocks (blocks_at blocks)) h
         only_main false h = cc
     steps_clean _ here names at e = tt
@@ -176,11 +181,14 @@ module _ (p : Program) where
           few n lt = omega (arith, lt)
 
   -- with one function more
-  function_covers : (names : Names) (f : Function) (touches : Bool) → Covering names → is_some (meant names f.name) ≡ false → (touches ≡ false → IsCalm p (function_number p.functions f.name.text)) → Covering (declare names f.name (as_declared f touches))
+  function_covers : (names : Names) (f : Function) (touches : Bool) → Covering names → is_some (meant names f.name) ≡ false → (touches ≡ false → IsCalm p (function_number p.functions f.name.text))
+      → Covering (declare names f.name (as_declared f touches))
   function_covers names f touches covers new calm t =
-      subst (λ (o : Option Declaration). Covered p (module_of p) (IsCalm p) [] t o) (sym (found_declared names f.name (as_declared f touches) t new)) (there (lookup (bytes_eq t) names) (bytes_eq t f.name.text) refl (covers t))
+      subst (λ (o : Option Declaration). Covered p (module_of p) (IsCalm p) [] t o) (sym (found_declared names f.name (as_declared f touches) t new))
+      (there (lookup (bytes_eq t) names) (bytes_eq t f.name.text) refl (covers t))
     where
-      there : (o : Option Declaration) (b : Bool) → bytes_eq t f.name.text ≡ b → Covered p (module_of p) (IsCalm p) [] t o → Covered p (module_of p) (IsCalm p) [] t (found_in o b (as_declared f touches))
+      there : (o : Option Declaration) (b : Bool) → bytes_eq t f.name.text ≡ b → Covered p (module_of p) (IsCalm p) [] t o
+          → Covered p (module_of p) (IsCalm p) [] t (found_in o b (as_declared f touches))
       there (Some d) b is h = h
       there None true is h = λ e. subst (λ (u : Text). IsCalm p (function_number p.functions u)) (sym (bytes_same t f.name.text is)) (calm e)
       there None false is h = tt
@@ -229,11 +237,13 @@ module _ (p : Program) where
   function_quiet : (names : Names) (f : Function) → Covering names → inside_faults names f ≡ [] → touches_tally names f ≡ false → AreQuiet p (module_of p) (IsCalm p) (function_code p f).instrs
   function_quiet names f covers none calm =
       joined p (module_of p) (IsCalm p) (form_code p (variant.Block f.body) (compiled.with_params [] f.params) (beginning (length f.params)) _) (closing f.gives)
-      (form_quiet p (module_of p) (IsCalm p) (body.Function f.gives) refl names (variant.Block f.body) false (with_params names f.params) (compiled.with_params [] f.params) 0 (beginning (length f.params)) _
+      (form_quiet p (module_of p) (IsCalm p) (body.Function f.gives) refl names (variant.Block f.body) false (with_params names f.params) (compiled.with_params [] f.params) 0
+      (beginning (length f.params)) _
       (covers_params p (module_of p) (IsCalm p) f.params names [] covers) (function-body names f none) (record { none = calm }))
       (closing_quiet f.gives)
 
-  functions_quiet : (fs rest : List Function) (names : Names) → Stage fs rest names → (k : ℕ) (f : Function) → slice_get rest k ≡ Some f → slice_get (flags_of names rest) k ≡ Some false → AreQuiet p (module_of p) (IsCalm p) (function_code p f).instrs
+  functions_quiet : (fs rest : List Function) (names : Names) → Stage fs rest names → (k : ℕ) (f : Function) → slice_get rest k ≡ Some f → slice_get (flags_of names rest) k ≡ Some false
+      → AreQuiet p (module_of p) (IsCalm p) (function_code p f).instrs
   functions_quiet fs [] names s k f e flag = absurd (never e)
     where
       never : None ≡ Some f → ⊥
@@ -293,14 +303,17 @@ module _ (p : Program) where
         let globals = global_names p in
         let covers = all_covers [] p.functions (with_shared [] p.shared) (first_stage accepted plain) in
         let with_width = covers_local p (module_of p) (IsCalm p) globals [] width_name type.Int 0 type.Int covers in
-        let with_both = covers_local p (module_of p) (IsCalm p) (declare globals width_name (declared.Local type.Int)) (with_slot [] width_name.text 0 type.Int) id_name type.Int 1 type.Int with_width in
+        let with_both = covers_local p (module_of p) (IsCalm p) (declare globals width_name (declared.Local type.Int)) (with_slot [] width_name.text 0 type.Int) id_name type.Int 1 type.Int
+        with_width in
         joined p (module_of p) (IsCalm p) (row_code p statements (routine_slots width_name.text id_name.text) (beginning 2) _) (i.Return ∷ [])
-        (row_quiet p (module_of p) (IsCalm p) body.Routine refl globals statements false (declare (declare globals width_name (declared.Local type.Int)) id_name (declared.Local type.Int)) (routine_slots width_name.text id_name.text) (beginning 2) _
+        (row_quiet p (module_of p) (IsCalm p) body.Routine refl globals statements false (declare (declare globals width_name (declared.Local type.Int)) id_name (declared.Local type.Int))
+        (routine_slots width_name.text id_name.text) (beginning 2) _
         with_both clean (record { none = ap (λ (xs : List Fault). list_any (λ x. is_tally_used x.kind) xs) clean }))
         (one p (module_of p) (IsCalm p) _ tt)
 
     -- the routine blocks use no tally word
-    pub blocks_untouched : (n : ℕ) (b : RoutineBlock) → slice_get (steps_in (variant.Block p.main)) n ≡ Some b → (place : ℕ) (instr : Instr) → Stands (block_code p b) place instr → UsesNoTally (module_of p) instr
+    pub blocks_untouched : (n : ℕ) (b : RoutineBlock) → slice_get (steps_in (variant.Block p.main)) n ≡ Some b → (place : ℕ) (instr : Instr) → Stands (block_code p b) place instr
+        → UsesNoTally (module_of p) instr
     blocks_untouched n b there place instr stands =
         uses_none instr
         (quiet_at p (module_of p) (IsCalm p) (block_code p b).instrs place instr stands

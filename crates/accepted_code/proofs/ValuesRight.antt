@@ -29,7 +29,8 @@ use Rattle.code_verify.specs.Kinds.{Kinds, result, below, parameters, loads, cal
 use Rattle.code_verify.specs.Rules.{Taken, KindsAt, most_operands}
 use Rattle.compiled_code.specs.Slots.{Slot, Slots, slot_of}
 use Rattle.compiled_code.specs.Sizes.{value_size, boxed_size, values_size, size_of, items_size, widths_size, given_by}
-use Rattle.compiled_code.specs.Values.{unary_instr, unary_kind, truth_instr, read_instr, item_instr, function_number, value_code, boxed_code, values_code, code_of, given_kind, name_kind, kind_in, boxed_kind}
+use Rattle.compiled_code.specs.Values.{unary_instr, unary_kind, truth_instr, read_instr, item_instr, function_number, value_code, boxed_code, values_code, code_of, given_kind, name_kind, kind_in}
+use Rattle.compiled_code.specs.Values.{boxed_kind}
 use Rattle.compiled_code.specs.Statements.{items_code, widths_code}
 use Rattle.compiled_code.specs.Modules.{gives_of}
 use Rattle.compiled_code.specs.Shape.{count, HasValue}
@@ -77,40 +78,49 @@ given_value result'.Nothing ks h = absurd h
 given_value result'.Int ks h = refl
 given_value result'.Bool ks h = refl
 
-call_leaves : (o : Option Code) (code : Code) (g : Result) (there ks : Kinds) → o ≡ Some code → below (parameters code) there ≡ Some ks → code.gives ≡ gives_of g → calls o there ≡ Some (result (gives_of g) ++ ks)
+call_leaves : (o : Option Code) (code : Code) (g : Result) (there ks : Kinds) → o ≡ Some code → below (parameters code) there ≡ Some ks → code.gives ≡ gives_of g
+    → calls o there ≡ Some (result (gives_of g) ++ ks)
 call_leaves o code g there ks found takes same =
     ap (λ (x : Option Code). calls x there) found ∙ ap (λ (x : Option Kinds). option_map (λ rest. result code.gives ++ rest) x) takes ∙ ap (λ (x : Result). Some (result x ++ ks)) same
 
 -- arguments and what is below them are no more than the longest list of operands
-args_short : {n : _} (args : Row_of-Expr n) (level : ℕ) → ValuesSpelled level args → (others : ℕ) → others + count args ≤ most_below level → others ≤ most_operands → others + count args ≤ most_operands
+args_short : {n : _} (args : Row_of-Expr n) (level : ℕ) → ValuesSpelled level args → (others : ℕ) → others + count args ≤ most_below level → others ≤ most_operands
+    → others + count args ≤ most_operands
 args_short end_of-Expr level s others few short = omega (arith, short)
 args_short (more_of-Expr where' node rest) level s others few short = let low = value_low node level s.0 in omega (arith, few, low)
 
-module _ (m : Module) (c : Code) (taken : Taken) (Ok : Instr → Type 0) (visible : ℕ) (main : Bool) (permits : Permits m c visible main Ok) (long : length taken ≡ length c.instrs) (p : Program) (slots : Slots) where
-  truth_right : (b : Bool) (at : ℕ) (ks : Kinds) → length ks ≤ most_operands → Held c.instrs at (truth_instr b ∷ []) → Held taken at (ks ∷ []) → KindsAt taken (at + 1) (ty.Bool ∷ ks) → Right m c taken Ok at (truth_instr b ∷ [])
+module _ (m : Module) (c : Code) (taken : Taken) (Ok : Instr → Type 0) (visible : ℕ) (main : Bool) (permits : Permits m c visible main Ok) (long : length taken ≡ length c.instrs) (p : Program)
+    (slots : Slots) where
+  truth_right : (b : Bool) (at : ℕ) (ks : Kinds) → length ks ≤ most_operands → Held c.instrs at (truth_instr b ∷ []) → Held taken at (ks ∷ []) → KindsAt taken (at + 1) (ty.Bool ∷ ks)
+      → Right m c taken Ok at (truth_instr b ∷ [])
   truth_right true at ks short h t end = (falls m c taken Ok at i.True ks (ty.Bool ∷ ks) tt h.0 t.0 tt refl short (permits.plain i.True tt) end, tt)
   truth_right false at ks short h t end = (falls m c taken Ok at i.False ks (ty.Bool ∷ ks) tt h.0 t.0 tt refl short (permits.plain i.False tt) end, tt)
 
   -- a name is read
-  read_right : (o : Option Slot) (area : Area) (at : ℕ) (ks : Kinds) → ReadFits m c Ok p o area → length ks ≤ most_operands → Held c.instrs at (read_instr o area ∷ []) → Held taken at (ks ∷ []) → KindsAt taken (at + 1) (name_kind o ∷ ks) → Right m c taken Ok at (read_instr o area ∷ [])
+  read_right : (o : Option Slot) (area : Area) (at : ℕ) (ks : Kinds) → ReadFits m c Ok p o area → length ks ≤ most_operands → Held c.instrs at (read_instr o area ∷ []) → Held taken at (ks ∷ [])
+      → KindsAt taken (at + 1) (name_kind o ∷ ks) → Right m c taken Ok at (read_instr o area ∷ [])
   read_right (Some s) area at ks fit short h t end =
       let within = slice_get_within c.locals s.number s.kind fit in
       (falls m c taken Ok at (i.Load s.number) ks (s.kind ∷ ks) tt h.0 t.0 within (ap (λ (o : Option Ty). loads o ks) fit) short (permits.loads s.number within) end, tt)
   read_right None area at ks fit short h t end = (falls m c taken Ok at (i.Word area.first) ks (ty.Int ∷ ks) tt h.0 t.0 fit.0 refl short fit.1 end, tt)
 
   -- a call whose arguments' code keeps the rules: it leaves what the function gives
-  call_piece : (name : Name) {n : _} (args : Row_of-Expr n) (at : ℕ) (ks : Kinds) (level : ℕ) → CallFits m c Ok p slots name args → level ≤ most_levels → ValuesSpelled (level + 1) args → length ks ≤ most_below level
+  call_piece : (name : Name) {n : _} (args : Row_of-Expr n) (at : ℕ) (ks : Kinds) (level : ℕ) → CallFits m c Ok p slots name args → level ≤ most_levels → ValuesSpelled (level + 1) args
+      → length ks ≤ most_below level
       → Held c.instrs at (values_code p slots args at ++ i.Call (function_number p.functions name.text) ∷ []) → Held taken at (values_taken p slots args ks ++ (pushed p slots args ks) ∷ [])
       → KindsAt taken (at + (values_size args + 1)) (result (gives_of (given_by (function_named p.functions name.text))) ++ ks)
-      → (length ks + count args ≤ most_below (level + 1) → Held c.instrs at (values_code p slots args at) → Held taken at (values_taken p slots args ks) → KindsAt taken (at + values_size args) (pushed p slots args ks) → Right m c taken Ok at (values_code p slots args at))
+      → (length ks + count args ≤ most_below (level + 1) → Held c.instrs at (values_code p slots args at) → Held taken at (values_taken p slots args ks)
+      → KindsAt taken (at + values_size args) (pushed p slots args ks) → Right m c taken Ok at (values_code p slots args at))
       → Right m c taken Ok at (values_code p slots args at ++ i.Call (function_number p.functions name.text) ∷ [])
   call_piece name args at ks level fit low s few h t end arguments =
       let pushed_long = pushed_length p slots args ks in
       let eight = fit.few in
       let short = args_short args (level + 1) s (length ks) (omega (arith, few, eight)) (omega (arith, few, low)) in
-      then_one m c taken Ok at (values_size args) (values_code p slots args at) (values_taken p slots args ks) (i.Call (function_number p.functions name.text)) (pushed p slots args ks) (result (gives_of (given_by (function_named p.functions name.text))) ++ ks)
+      then_one m c taken Ok at (values_size args) (values_code p slots args at) (values_taken p slots args ks) (i.Call (function_number p.functions name.text)) (pushed p slots args ks)
+      (result (gives_of (given_by (function_named p.functions name.text))) ++ ks)
       (values_length p slots args at) (values_many p slots args ks) tt (slice_get_within m.functions (function_number p.functions name.text) fit.code fit.there) fit.allowed
-      (call_leaves (slice_get m.functions (function_number p.functions name.text)) fit.code (given_by (function_named p.functions name.text)) (pushed p slots args ks) ks fit.there (fit.takes ks) fit.gives)
+      (call_leaves (slice_get m.functions (function_number p.functions name.text)) fit.code (given_by (function_named p.functions name.text)) (pushed p slots args ks) ks fit.there (fit.takes ks)
+      fit.gives)
       (omega (arith, pushed_long, short)) h t end
       (λ h1 t1 there. arguments (omega (arith, few, eight)) h1 t1 there)
 
@@ -125,18 +135,22 @@ module _ (m : Module) (c : Code) (taken : Taken) (Ok : Instr → Type 0) (visibl
         read_right (slot_of slots name.text) (declared (area_of p.shared name.text)) at ks fit (omega (arith, few, s)) h t (at_end taken _ (at + (0 + 1)) (at + 1) (omega arith) end)
     value_right (Read (Place' name (Some' shape index))) at ks level fit s few h t end =
         let low = boxed_low index (level + 1) s in
-        then_one m c taken Ok at (boxed_size index) (boxed_code p slots index at) (boxed_taken p slots index ks) (item_instr (declared (area_of p.shared name.text))) (boxed_kind p slots index ∷ ks) (ty.Int ∷ ks)
-        (boxed_length p slots index at) (boxed_many p slots index ks) tt fit.0.0 (permits.items (declared (area_of p.shared name.text)).first (unwrap_or (declared (area_of p.shared name.text)).items 0) fit.0.0 fit.0.1)
+        then_one m c taken Ok at (boxed_size index) (boxed_code p slots index at) (boxed_taken p slots index ks) (item_instr (declared (area_of p.shared name.text))) (boxed_kind p slots index ∷ ks)
+        (ty.Int ∷ ks)
+        (boxed_length p slots index at) (boxed_many p slots index ks) tt fit.0.0 (permits.items (declared (area_of p.shared name.text)).first
+        (unwrap_or (declared (area_of p.shared name.text)).items 0) fit.0.0 fit.0.1)
         (subst (λ (k : Ty). after m c (item_instr (declared (area_of p.shared name.text))) (k ∷ ks) ≡ Some (ty.Int ∷ ks)) (sym fit.2) refl) (omega (arith, few, low)) h t end
         (λ h1 t1 there. boxed_right index at ks (level + 1) fit.1 s (omega (arith, few)) h1 t1 there)
     value_right (CallOf (Call' name shape args)) at ks level fit s few h t end =
-        call_piece name args at ks level fit.0 s.0 s.1 few h t (subst (λ (l : Kinds). KindsAt taken (at + (values_size args + 1)) l) (sym (given_value (given_by (function_named p.functions name.text)) ks fit.2)) end)
+        call_piece name args at ks level fit.0 s.0 s.1 few h t (subst (λ (l : Kinds). KindsAt taken (at + (values_size args + 1)) l)
+        (sym (given_value (given_by (function_named p.functions name.text)) ks fit.2)) end)
         (λ few' h1 t1 there. values_right args at ks (level + 1) fit.1 s.1 few' h1 t1 there)
     value_right (Unary' op shape a) at ks level fit s few h t end =
         let low = boxed_low a (level + 1) s in
         let plain : _ × _ × _ = unary_plain m c op in
         then_one m c taken Ok at (boxed_size a) (boxed_code p slots a at) (boxed_taken p slots a ks) (unary_instr op) (boxed_kind p slots a ∷ ks) (unary_kind op ∷ ks)
-        (boxed_length p slots a at) (boxed_many p slots a ks) plain.0 plain.1 (permits.plain (unary_instr op) plain.2) (unary_leaves m c op (boxed_kind p slots a) ks fit.1) (omega (arith, few, low)) h t end
+        (boxed_length p slots a at) (boxed_many p slots a ks) plain.0 plain.1 (permits.plain (unary_instr op) plain.2) (unary_leaves m c op (boxed_kind p slots a) ks fit.1) (omega (arith, few, low)) h
+        t end
         (λ h1 t1 there. boxed_right a at ks (level + 1) fit.0 s (omega (arith, few)) h1 t1 there)
     value_right (Binary' op shape a shape' b) at ks level fit s few h t end =
         let low = boxed_low b (level + 1) s.1 in
@@ -171,7 +185,8 @@ module _ (m : Module) (c : Code) (taken : Taken) (Ok : Instr → Type 0) (visibl
     values_right (more_of-Expr where' node rest) at ks level fit s few h t end =
         let long_end : at + (value_size node + values_size rest) ≡ at + value_size node + values_size rest = omega arith in
         let end' = at_end taken (pushed p slots rest (kind_in p slots node ∷ ks)) (at + (value_size node + values_size rest)) (at + value_size node + values_size rest) long_end end in
-        then_piece m c taken Ok at (value_size node) (value_code p slots node at) (values_code p slots rest (at + value_size node)) (value_taken p slots node ks) (values_taken p slots rest (kind_in p slots node ∷ ks)) (kind_in p slots node ∷ ks)
+        then_piece m c taken Ok at (value_size node) (value_code p slots node at) (values_code p slots rest (at + value_size node)) (value_taken p slots node ks)
+        (values_taken p slots rest (kind_in p slots node ∷ ks)) (kind_in p slots node ∷ ks)
         (value_length p slots node at) (value_many p slots node ks) h t
         (λ tb. values_start p slots taken rest (at + value_size node) (kind_in p slots node ∷ ks) level s.1 tb end')
         (λ h1 t1 there. value_right node at ks level fit.0 s.0 (omega (arith, few)) h1 t1 there)
@@ -191,13 +206,15 @@ module _ (m : Module) (c : Code) (taken : Taken) (Ok : Instr → Type 0) (visibl
 
   -- the values of a line
   pub items_right : (items : List Item) (at : ℕ) (ks : Kinds) → ItemsFit m c Ok p slots items → ItemsSpelled items → length ks + length items ≤ 511
-      → Held c.instrs at (items_code p slots items at) → Held taken at (items_taken p slots items ks) → KindsAt taken (at + items_size items) (items_pushed p slots items ks) → Right m c taken Ok at (items_code p slots items at)
+      → Held c.instrs at (items_code p slots items at) → Held taken at (items_taken p slots items ks) → KindsAt taken (at + items_size items) (items_pushed p slots items ks)
+      → Right m c taken Ok at (items_code p slots items at)
   items_right [] at ks fit s few h t end = tt
   items_right (item.Text text ∷ rest) at ks fit s few h t end = items_right rest at ks fit s (omega (arith, few)) h t end
   items_right (item.Value e ∷ rest) at ks fit s few h t end =
       let long_end : at + (size_of e + items_size rest) ≡ at + size_of e + items_size rest = omega arith in
       let end' = at_end taken (items_pushed p slots rest (kind_in p slots e.node ∷ ks)) (at + (size_of e + items_size rest)) (at + size_of e + items_size rest) long_end end in
-      then_piece m c taken Ok at (size_of e) (code_of p slots e at) (items_code p slots rest (at + size_of e)) (taken_of p slots e ks) (items_taken p slots rest (kind_in p slots e.node ∷ ks)) (kind_in p slots e.node ∷ ks)
+      then_piece m c taken Ok at (size_of e) (code_of p slots e at) (items_code p slots rest (at + size_of e)) (taken_of p slots e ks) (items_taken p slots rest (kind_in p slots e.node ∷ ks))
+      (kind_in p slots e.node ∷ ks)
       (expr_length p slots e at) (expr_many p slots e ks) h t
       (λ tb. items_start p slots taken rest (at + size_of e) (kind_in p slots e.node ∷ ks) s.1 tb end')
       (λ h1 t1 there. value_right e.node at ks 0 fit.0 s.0 (omega (arith, few)) h1 t1 there)
@@ -205,12 +222,14 @@ module _ (m : Module) (c : Code) (taken : Taken) (Ok : Instr → Type 0) (visibl
 
   -- the widths of a step
   pub widths_right : (blocks : List RoutineBlock) (at : ℕ) (ks : Kinds) → WidthsFit m c Ok p slots blocks → WidthsSpelled blocks → length ks + length blocks ≤ 511
-      → Held c.instrs at (widths_code p slots blocks at) → Held taken at (widths_taken p slots blocks ks) → KindsAt taken (at + widths_size blocks) (widths_pushed p slots blocks ks) → Right m c taken Ok at (widths_code p slots blocks at)
+      → Held c.instrs at (widths_code p slots blocks at) → Held taken at (widths_taken p slots blocks ks) → KindsAt taken (at + widths_size blocks) (widths_pushed p slots blocks ks)
+      → Right m c taken Ok at (widths_code p slots blocks at)
   widths_right [] at ks fit s few h t end = tt
   widths_right (RoutineBlock' where' width width_name id_name shape body ∷ rest) at ks fit s few h t end =
       let long_end : at + (size_of width + widths_size rest) ≡ at + size_of width + widths_size rest = omega arith in
       let end' = at_end taken (widths_pushed p slots rest (kind_in p slots width.node ∷ ks)) (at + (size_of width + widths_size rest)) (at + size_of width + widths_size rest) long_end end in
-      then_piece m c taken Ok at (size_of width) (code_of p slots width at) (widths_code p slots rest (at + size_of width)) (taken_of p slots width ks) (widths_taken p slots rest (kind_in p slots width.node ∷ ks)) (kind_in p slots width.node ∷ ks)
+      then_piece m c taken Ok at (size_of width) (code_of p slots width at) (widths_code p slots rest (at + size_of width)) (taken_of p slots width ks)
+      (widths_taken p slots rest (kind_in p slots width.node ∷ ks)) (kind_in p slots width.node ∷ ks)
       (expr_length p slots width at) (expr_many p slots width ks) h t
       (λ tb. widths_start p slots taken rest (at + size_of width) (kind_in p slots width.node ∷ ks) s.1 tb end')
       (λ h1 t1 there. value_right width.node at ks 0 fit.0.0 s.0 (omega (arith, few)) h1 t1 there)

@@ -220,15 +220,18 @@ module _ (p : Program) (spelled : IsSpelledWithin text_limit p) (accepted : IsAc
       let l = length-append (form_code p body slots at (ends_at size)) (closing f.gives) in
       let short = closing_short f.gives in
       let instrs : length c.instrs < 2 ^ 32 = omega (arith, limit, body_long, l, short) in
-      let allowed = permits (module_of p) c (k + 1) false (owner.Function k) (small c (k + 1) instrs locals (omega (arith, within, few))) (λ g h. (tt, omega (arith, h))) (λ no. absurd cc) (λ no. absurd cc) in
+      let allowed = permits (module_of p) c (k + 1) false (owner.Function k) (small c (k + 1) instrs locals (omega (arith, within, few))) (λ g h. (tt, omega (arith, h))) (λ no. absurd cc)
+      (λ no. absurd cc) in
       let right = function_fits p accepted shared k f e is.body fits.0 (OkIn (module_of p) (owner.Function k)) allowed in
       let same_params = length-map f.params (λ q. kind_of q.ty) in
       let local_parts = length-append (map (λ q. kind_of q.ty) f.params) (kinds_in body) in
       record {
-        keeps_rules = keeps (module_of p) c (OkIn (module_of p) (owner.Function k)) (k + 1) false allowed f.gives refl (form_code p body slots at (ends_at size)) (form_taken p body slots (length f.params)) size
+        keeps_rules = keeps (module_of p) c (OkIn (module_of p) (owner.Function k)) (k + 1) false allowed f.gives refl (form_code p body slots at (ends_at size))
+            (form_taken p body slots (length f.params)) size
             refl body_long (form_many p body slots (length f.params)) locals params (omega (arith, same_params, local_parts))
             (λ long t end. form_starts p (form_taken p body slots (length f.params) ++ closing_taken f.gives) body slots 0 (length f.params) fits.0 t end)
-            (λ long h t end. form_right (module_of p) c (form_taken p body slots (length f.params) ++ closing_taken f.gives) (OkIn (module_of p) (owner.Function k)) (k + 1) false allowed long p body slots at (ends_at size) right fits.0
+            (λ long h t end. form_right (module_of p) c (form_taken p body slots (length f.params) ++ closing_taken f.gives) (OkIn (module_of p) (owner.Function k)) (k + 1) false allowed long p body
+            slots at (ends_at size) right fits.0
             (body_exits (module_of p) c (form_taken p body slots (length f.params) ++ closing_taken f.gives) (OkIn (module_of p) (owner.Function k)) (k + 1) false allowed long p size end) h t end);
         instrs = instrs;
         locals = locals;
@@ -246,7 +249,8 @@ module _ (p : Program) (spelled : IsSpelledWithin text_limit p) (accepted : IsAc
       (λ instrs locals is spelled' ok. block_fits p accepted shared n b e is spelled' (OkIn (module_of p) owner.Block) ok)
     where
       by : (b : RoutineBlock) → length (block_code p b).locals ≤ 64 → RoutineFits p code_limit b → RoutineIs p b
-          → ((instrs : length (block_code p b).instrs < 2 ^ 32) → length (block_code p b).locals ≤ 64 → RoutineIs p b → RoutineSpelled b → Permits (module_of p) (block_code p b) (length p.functions) false (OkIn (module_of p) owner.Block) → BlockFits (OkIn (module_of p) owner.Block) p b)
+          → ((instrs : length (block_code p b).instrs < 2 ^ 32) → length (block_code p b).locals ≤ 64 → RoutineIs p b → RoutineSpelled b
+          → Permits (module_of p) (block_code p b) (length p.functions) false (OkIn (module_of p) owner.Block) → BlockFits (OkIn (module_of p) owner.Block) p b)
           → IsCodeOf (module_of p) owner.Block (block_code p b)
       by (RoutineBlock' where' width width_name id_name form' body) locals fits is fit =
           let c = block_code p (RoutineBlock' where' width width_name id_name form' body) in
@@ -265,7 +269,8 @@ module _ (p : Program) (spelled : IsSpelledWithin text_limit p) (accepted : IsAc
             keeps_rules = keeps (module_of p) c (OkIn (module_of p) owner.Block) (length p.functions) false allowed result'.Nothing refl code kinds size
                 refl body_long (row_many p body slots 2) locals (omega arith) (omega arith)
                 (λ long t end. row_starts p (kinds ++ closing_taken result'.Nothing) body slots 0 2 fits.0 t end)
-                (λ long h t end. row_right (module_of p) c (kinds ++ closing_taken result'.Nothing) (OkIn (module_of p) owner.Block) (length p.functions) false allowed long p body slots (beginning 2) (ends_at size) right fits.0
+                (λ long h t end. row_right (module_of p) c (kinds ++ closing_taken result'.Nothing) (OkIn (module_of p) owner.Block) (length p.functions) false allowed long p body slots (beginning 2)
+                (ends_at size) right fits.0
                 (body_exits (module_of p) c (kinds ++ closing_taken result'.Nothing) (OkIn (module_of p) owner.Block) (length p.functions) false allowed long p size end) h t end);
             instrs = instrs;
             locals = locals;
@@ -286,13 +291,15 @@ module _ (p : Program) (spelled : IsSpelledWithin text_limit p) (accepted : IsAc
       let body_long = form_length p body [] (beginning 0) (ends_at size) in
       let l = length-append code (closing result'.Nothing) in
       let instrs : length c.instrs < 2 ^ 32 = omega (arith, limit, body_long, l) in
-      let allowed = permits (module_of p) c (length p.functions) true owner.Main (small c (length p.functions) instrs locals few) (λ g h. tt) (λ yes items short. short) (λ yes b n some short there. (some, short, there)) in
+      let allowed = permits (module_of p) c (length p.functions) true owner.Main (small c (length p.functions) instrs locals few) (λ g h. tt) (λ yes items short. short)
+      (λ yes b n some short there. (some, short, there)) in
       let right = main_fits p accepted shared shape.main fits.0 (OkIn (module_of p) owner.Main) allowed in
       record {
         keeps_rules = keeps (module_of p) c (OkIn (module_of p) owner.Main) (length p.functions) true allowed result'.Nothing refl code kinds size
             refl body_long (form_many p body [] 0) locals (omega arith) (omega arith)
             (λ long t end. form_starts p (kinds ++ closing_taken result'.Nothing) body [] 0 0 fits.0 t end)
-            (λ long h t end. form_right (module_of p) c (kinds ++ closing_taken result'.Nothing) (OkIn (module_of p) owner.Main) (length p.functions) true allowed long p body [] (beginning 0) (ends_at size) right fits.0
+            (λ long h t end. form_right (module_of p) c (kinds ++ closing_taken result'.Nothing) (OkIn (module_of p) owner.Main) (length p.functions) true allowed long p body [] (beginning 0)
+            (ends_at size) right fits.0
             (body_exits (module_of p) c (kinds ++ closing_taken result'.Nothing) (OkIn (module_of p) owner.Main) (length p.functions) true allowed long p size end) h t end);
         instrs = instrs;
         locals = locals;
@@ -342,7 +349,8 @@ module _ (p : Program) (spelled : IsSpelledWithin text_limit p) (accepted : IsAc
           omega (arith, few, same_functions),
           all_from FitsFunction (module_of p).functions (λ k c e.
               let made = each_function k c e in
-              subst FitsFunction made.2 (let params = few_params p accepted shared k made.0 made.1 in (omega (arith, params), code_fits (module_of p) (owner.Function k) (function_code p made.0) (function_is k made.0 made.1)))),
+              subst FitsFunction made.2 (let params = few_params p accepted shared k made.0 made.1 in
+              (omega (arith, params), code_fits (module_of p) (owner.Function k) (function_code p made.0) (function_is k made.0 made.1)))),
         );
         blocks = (
           omega (arith, few_blocks, same_blocks),

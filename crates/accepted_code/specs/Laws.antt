@@ -19,7 +19,8 @@ AcceptedHasShape = (p : Program) → IsSpelledWithin text_limit p → IsAccepted
 
 -- so, if its module keeps the rules, the module means what the program means, for each amount of fuel
 abbrev pub AcceptedKeepsItsMeaning : Type 0
-AcceptedKeepsItsMeaning = (p : Program) → IsSpelledWithin text_limit p → IsAccepted p → IsVerified (module_of p) → (fuel : ℕ) → machine_meaning (module_of p) fuel ≡ meaning p fuel
+AcceptedKeepsItsMeaning = (p : Program) → IsSpelledWithin text_limit p → IsAccepted p → IsVerified (module_of p) → (fuel : ℕ)
+    → machine_meaning (module_of p) fuel ≡ meaning p fuel
 
 -- the texts that a program prints are lists of bytes
 abbrev pub HasBytes : Program → Type 0
@@ -31,4 +32,5 @@ AcceptedIsVerified = (p : Program) → IsSpelledWithin text_limit p → IsAccept
 
 -- so the module means what the program means, for each amount of fuel
 abbrev pub AcceptedMeansTheSame : Type 0
-AcceptedMeansTheSame = (p : Program) → IsSpelledWithin text_limit p → IsAccepted p → HasBytes p → (fuel : ℕ) → machine_meaning (module_of p) fuel ≡ meaning p fuel
+AcceptedMeansTheSame = (p : Program) → IsSpelledWithin text_limit p → IsAccepted p → HasBytes p → (fuel : ℕ)
+    → machine_meaning (module_of p) fuel ≡ meaning p fuel

@@ -1,5 +1,6 @@
 -- Each field that is read is the field that was written, and what was written is read again.
-use Rattle.std.proofs.Common.{◌≡◌, ◌≢◌, ℕ, zero, suc, ◌+◌, ◌*◌, ◌/◌, ◌%◌, ◌^◌, ◌<◌, ◌≤◌, Bool, true, false, cond, ltb, eqb, List, [], ◌∷◌, ◌++◌, length, take, drop, Option, Some, None, map, refl, sym, ap, subst, ◌∙◌, append_assoc, arith}
+use Rattle.std.proofs.Common.{◌≡◌, ◌≢◌, ℕ, zero, suc, ◌+◌, ◌*◌, ◌/◌, ◌%◌, ◌^◌, ◌<◌, ◌≤◌, Bool, true, false, cond, ltb, eqb, List, [], ◌∷◌, ◌++◌, length, take, drop, Option, Some, None, map, refl, sym}
+use Rattle.std.proofs.Common.{ap, subst, ◌∙◌, append_assoc, arith}
 use Rattle.bytecode.specs.declared.fault.DecodeError.{DecodeError}
 use Rattle.bytecode.specs.declared.fault.DecodeError.TheVariants as error
 use Rattle.std.specs.Prelude.{IfOk, MatchResult, Result, Ok, Err, ℤ, pos, negsuc, ◌&&◌}
@@ -20,8 +21,10 @@ use Rattle.cal_terms.specs.declared.types.Gives.TheVariants as gives
 use Rattle.bytecode.specs.declared.module.Code.{Code}
 use Rattle.bytecode.specs.declared.module.Module.{Module}
 use Rattle.bytecode.specs.Spelling as Spelling
-use Rattle.bytecode.specs.Spelling.{num, zigzag, zig, counted, initial, text, kind, given, print_item, instr, code, function, Counted, FitsNum, FitsZig, FitsInitial, FitsByte, FitsText, FitsKind, FitsItem, FitsInstr, FitsCode, FitsFunction, FitsBlock, FitsMain, AreAscendingFrom, HasSpelling, spelling}
-use Rattle.bytecode.specs.Reading.{Reads, Read, ◌>>=◌, num_at, num32_at, unzigzag, zig_at, list_at, counted_at, initial_at, text_at, byte_at, kind_of, given_of, print_item_at, plain_of, of_one, of_two, takes_two, operands_at, instr_at, code_at, function_at, begun_at, are_ascending_from, module_of}
+use Rattle.bytecode.specs.Spelling.{num, zigzag, zig, counted, initial, text, kind, given, print_item, instr, code, function, Counted, FitsNum, FitsZig, FitsInitial, FitsByte, FitsText, FitsKind}
+use Rattle.bytecode.specs.Spelling.{FitsItem, FitsInstr, FitsCode, FitsFunction, FitsBlock, FitsMain, AreAscendingFrom, HasSpelling, spelling}
+use Rattle.bytecode.specs.Reading.{Reads, Read, ◌>>=◌, num_at, num32_at, unzigzag, zig_at, list_at, counted_at, initial_at, text_at, byte_at, kind_of, given_of, print_item_at, plain_of, of_one}
+use Rattle.bytecode.specs.Reading.{of_two, takes_two, operands_at, instr_at, code_at, function_at, begun_at, are_ascending_from, module_of}
 use Rattle.bytecode.proofs.Numbers.{IsBytes, Takes, IsForm, bind_some, when_some, unless_some, some_same, num_form}
 
 -- one field, and then another
@@ -37,7 +40,8 @@ num32_form = record {
       let n = bind_some (num_at 10 bytes) (λ n. cond (ltb n.0 (2 ^ 32)) (Some n) None) x e in
       let small = when_some (ltb n.0.0 (2 ^ 32)) (Some n.0) x n.2 in
       let taken = num_form.takes bytes n.0 h n.1 in
-      subst (λ (y : ℕ × List ℕ). Takes num FitsNum bytes y) (some_same n.0 x (Some n.0) refl small.1) (record { parts = taken.parts; fits = ltb-true n.0.0 (2 ^ 32) small.0; rest_bytes = taken.rest_bytes });
+      subst (λ (y : ℕ × List ℕ). Takes num FitsNum bytes y) (some_same n.0 x (Some n.0) refl small.1)
+      (record { parts = taken.parts; fits = ltb-true n.0.0 (2 ^ 32) small.0; rest_bytes = taken.rest_bytes });
   again = λ n rest fits. rw (num_form.again n rest (omega arith), lt-ltb n (2 ^ 32) fits) refl;
 }
 
@@ -64,7 +68,8 @@ zig_form = record {
   takes = λ bytes x h e.
       let n = bind_some (num_at 10 bytes) (λ n. Some (unzigzag n.0, n.1)) x e in
       let taken = num_form.takes bytes n.0 h n.1 in
-      subst (λ (y : ℤ × List ℕ). Takes zig FitsZig bytes y) (some_same (unzigzag n.0.0, n.0.1) x (Some (unzigzag n.0.0, n.0.1)) refl n.2) (record { parts = rw (zigzag_back n.0.0) taken.parts; fits = rw (zigzag_back n.0.0) taken.fits; rest_bytes = taken.rest_bytes });
+      subst (λ (y : ℤ × List ℕ). Takes zig FitsZig bytes y) (some_same (unzigzag n.0.0, n.0.1) x (Some (unzigzag n.0.0, n.0.1)) refl n.2)
+      (record { parts = rw (zigzag_back n.0.0) taken.parts; fits = rw (zigzag_back n.0.0) taken.fits; rest_bytes = taken.rest_bytes });
   again = λ z rest fits. rw (num_form.again (zigzag z) rest fits) (ap (λ (y : ℤ). Some (y, rest)) (unzigzag_back z));
 }
 
@@ -74,7 +79,8 @@ module _ {A : Type 0} (spell : A → List ℕ) (Fits : A → Type 0) (reads : Li
   list_takes : (n : ℕ) (bytes : List ℕ) (x : List A × List ℕ) → IsBytes bytes → list_at reads n bytes ≡ Some x → Takes (flat_map spell) (λ xs. (length xs ≡ n) × AllByRecursion Fits xs) bytes x
   unfolding list_at
   list_takes zero bytes x h e =
-      subst (λ (y : List A × List ℕ). Takes (flat_map spell) (λ xs. (length xs ≡ 0) × AllByRecursion Fits xs) bytes y) (some_same ([], bytes) x (Some ([], bytes)) refl e) (record { parts = refl; fits = (refl, tt); rest_bytes = h })
+      subst (λ (y : List A × List ℕ). Takes (flat_map spell) (λ xs. (length xs ≡ 0) × AllByRecursion Fits xs) bytes y) (some_same ([], bytes) x (Some ([], bytes)) refl e)
+      (record { parts = refl; fits = (refl, tt); rest_bytes = h })
   list_takes (suc n) bytes x h e =
       let a = bind_some (reads bytes) (λ first. list_at reads n first.1 >>= λ others. Some (first.0 ∷ others.0, others.1)) x e in
       let b = bind_some (list_at reads n a.0.1) (λ others. Some (a.0.0 ∷ others.0, others.1)) x a.2 in
@@ -87,7 +93,8 @@ module _ {A : Type 0} (spell : A → List ℕ) (Fits : A → Type 0) (reads : Li
   unfolding list_at
   list_again [] rest fits = refl
   list_again (a ∷ xs) rest fits =
-      let regrouped : flat_map spell (a ∷ xs) ++ rest ≡ spell a ++ (flat_map spell xs ++ rest) = ap (λ (l : List ℕ). l ++ rest) (flat_map-cons spell a xs) ∙ append_assoc (spell a) (flat_map spell xs) rest in
+      let regrouped : flat_map spell (a ∷ xs) ++ rest ≡ spell a ++ (flat_map spell xs ++ rest) = ap (λ (l : List ℕ). l ++ rest) (flat_map-cons spell a xs)
+      ∙ append_assoc (spell a) (flat_map spell xs) rest in
       ap (list_at reads (suc (length xs))) regrouped ∙ rw (form.again a (flat_map spell xs ++ rest) fits.0, list_again xs rest fits.1) refl
 
   pub counted_form : IsForm (counted spell) (Counted Fits) (counted_at reads)
@@ -107,7 +114,8 @@ module _ {A : Type 0} (spell : A → List ℕ) (Fits : A → Type 0) (reads : Li
 bytes_rest : (b : ℕ) (bytes : List ℕ) → IsBytes (b ∷ bytes) → IsBytes bytes
 bytes_rest b bytes h i = h (suc i)
 
-pub byte_form : {A : Type 0} (spell : A → List ℕ) (means : ℕ → Option A) → ((b : ℕ) (a : A) → means b ≡ Some a → spell a ≡ b ∷ []) → ((a : A) → (b : ℕ) × (spell a ≡ b ∷ []) × (means b ≡ Some a)) → IsForm spell (λ a. Unit {0}) (byte_at means)
+pub byte_form : {A : Type 0} (spell : A → List ℕ) (means : ℕ → Option A) → ((b : ℕ) (a : A) → means b ≡ Some a → spell a ≡ b ∷ []) → ((a : A) → (b : ℕ) × (spell a ≡ b ∷ []) × (means b ≡ Some a))
+    → IsForm spell (λ a. Unit {0}) (byte_at means)
 unfolding byte_at
 byte_form {A} spell means found back = record { takes = takes; again = again }
   where
@@ -115,7 +123,8 @@ byte_form {A} spell means found back = record { takes = takes; again = again }
     takes [] x h e = absurd cc
     takes (b ∷ bytes) x h e =
         let a = bind_some (means b) (λ a. Some (a, bytes)) x e in
-        subst (λ (y : A × List ℕ). Takes spell (λ a. Unit {0}) (b ∷ bytes) y) (some_same (a.0, bytes) x (Some (a.0, bytes)) refl a.2) (record { parts = ap (λ (l : List ℕ). l ++ bytes) (sym (found b a.0 a.1)); fits = tt; rest_bytes = bytes_rest b bytes h })
+        subst (λ (y : A × List ℕ). Takes spell (λ a. Unit {0}) (b ∷ bytes) y) (some_same (a.0, bytes) x (Some (a.0, bytes)) refl a.2)
+        (record { parts = ap (λ (l : List ℕ). l ++ bytes) (sym (found b a.0 a.1)); fits = tt; rest_bytes = bytes_rest b bytes h })
 
     again : (a : A) (rest : List ℕ) → Unit {0} → byte_at means (spell a ++ rest) ≡ Some (a, rest)
     again a rest fits = let b = back a in ap (λ (l : List ℕ). byte_at means (l ++ rest)) b.1 ∙ rw (b.2) refl
@@ -138,7 +147,8 @@ kind_found b k e = pick b 1 ty.Int _ k e (λ p q. here 1 ty.Int p q refl) (λ e.
     here n x p q spelled = subst (λ (z : Ty). kind z ≡ b ∷ []) q (spelled ∙ ap (λ (n : ℕ). n ∷ []) (sym p))
 
 given_found : (b : ℕ) (k : Gives) → given_of b ≡ Some k → given k ≡ b ∷ []
-given_found b k e = pick b 0 gives.Nothing _ k e (λ p q. here 0 gives.Nothing p q refl) (λ e. pick b 1 gives.Int _ k e (λ p q. here 1 gives.Int p q refl) (λ e. pick b 2 gives.Bool _ k e (λ p q. here 2 gives.Bool p q refl) (λ e. absurd cc)))
+given_found b k e = pick b 0 gives.Nothing _ k e (λ p q. here 0 gives.Nothing p q refl) (λ e. pick b 1 gives.Int _ k e (λ p q. here 1 gives.Int p q refl)
+    (λ e. pick b 2 gives.Bool _ k e (λ p q. here 2 gives.Bool p q refl) (λ e. absurd cc)))
   where
     here : (n : ℕ) (x : Gives) → b ≡ n → x ≡ k → given x ≡ n ∷ [] → given k ≡ b ∷ []
     here n x p q spelled = subst (λ (z : Gives). given z ≡ b ∷ []) q (spelled ∙ ap (λ (n : ℕ). n ∷ []) (sym p))
@@ -168,11 +178,14 @@ print_item_takes (b ∷ bytes) x h e =
     (λ p e.
     let n = bind_some (num32_at bytes) (λ n. Some (item.Text n.0, n.1)) x e in
     let taken = num32_form.takes bytes n.0 (bytes_rest b bytes h) n.1 in
-    subst (λ (y : PrintItem × List ℕ). Takes print_item FitsItem (b ∷ bytes) y) (some_same (item.Text n.0.0, n.0.1) x (Some (item.Text n.0.0, n.0.1)) refl n.2) (record { parts = rw p (ap (λ (l : List ℕ). 0 ∷ l) taken.parts); fits = taken.fits; rest_bytes = taken.rest_bytes }))
+    subst (λ (y : PrintItem × List ℕ). Takes print_item FitsItem (b ∷ bytes) y) (some_same (item.Text n.0.0, n.0.1) x (Some (item.Text n.0.0, n.0.1)) refl n.2)
+    (record { parts = rw p (ap (λ (l : List ℕ). 0 ∷ l) taken.parts); fits = taken.fits; rest_bytes = taken.rest_bytes }))
     (λ e. choose b 1 (Some (item.Int, bytes)) _ x e
-    (λ p e. subst (λ (y : PrintItem × List ℕ). Takes print_item FitsItem (b ∷ bytes) y) (some_same (item.Int, bytes) x (Some (item.Int, bytes)) refl e) (record { parts = rw p refl; fits = tt; rest_bytes = bytes_rest b bytes h }))
+    (λ p e. subst (λ (y : PrintItem × List ℕ). Takes print_item FitsItem (b ∷ bytes) y) (some_same (item.Int, bytes) x (Some (item.Int, bytes)) refl e)
+    (record { parts = rw p refl; fits = tt; rest_bytes = bytes_rest b bytes h }))
     (λ e. choose b 2 (Some (item.Truth, bytes)) _ x e
-    (λ p e. subst (λ (y : PrintItem × List ℕ). Takes print_item FitsItem (b ∷ bytes) y) (some_same (item.Truth, bytes) x (Some (item.Truth, bytes)) refl e) (record { parts = rw p refl; fits = tt; rest_bytes = bytes_rest b bytes h }))
+    (λ p e. subst (λ (y : PrintItem × List ℕ). Takes print_item FitsItem (b ∷ bytes) y) (some_same (item.Truth, bytes) x (Some (item.Truth, bytes)) refl e)
+    (record { parts = rw p refl; fits = tt; rest_bytes = bytes_rest b bytes h }))
     (λ e. absurd cc)))
 
 print_item_again : (a : PrintItem) (rest : List ℕ) → FitsItem a → print_item_at (print_item a ++ rest) ≡ Some (a, rest)
@@ -194,15 +207,36 @@ leaf b k tail x y Fit p q spelled fits =
 
 plain_takes : (b : ℕ) (y : Instr) → plain_of b ≡ Some y → (instr y ≡ b ∷ []) × (Unit {0} → FitsInstr y)
 unfolding instr
-plain_takes b y e = pick b 1 i.False _ y e (λ p q. leaf b 1 [] i.False y (Unit {0}) p q refl (λ f. tt)) (λ e. pick b 2 i.True _ y e (λ p q. leaf b 2 [] i.True y (Unit {0}) p q refl (λ f. tt)) (λ e. pick b 3 i.Add _ y e (λ p q. leaf b 3 [] i.Add y (Unit {0}) p q refl (λ f. tt)) (λ e. pick b 4 i.Sub _ y e (λ p q. leaf b 4 [] i.Sub y (Unit {0}) p q refl (λ f. tt)) (λ e. pick b 5 i.Mul _ y e (λ p q. leaf b 5 [] i.Mul y (Unit {0}) p q refl (λ f. tt)) (λ e. pick b 6 i.Div _ y e (λ p q. leaf b 6 [] i.Div y (Unit {0}) p q refl (λ f. tt)) (λ e. pick b 7 i.Rem _ y e (λ p q. leaf b 7 [] i.Rem y (Unit {0}) p q refl (λ f. tt)) (λ e. pick b 8 i.Neg _ y e (λ p q. leaf b 8 [] i.Neg y (Unit {0}) p q refl (λ f. tt)) (λ e. pick b 9 i.Not _ y e (λ p q. leaf b 9 [] i.Not y (Unit {0}) p q refl (λ f. tt)) (λ e. pick b 10 i.Eq _ y e (λ p q. leaf b 10 [] i.Eq y (Unit {0}) p q refl (λ f. tt)) (λ e. pick b 11 i.Ne _ y e (λ p q. leaf b 11 [] i.Ne y (Unit {0}) p q refl (λ f. tt)) (λ e. pick b 12 i.Lt _ y e (λ p q. leaf b 12 [] i.Lt y (Unit {0}) p q refl (λ f. tt)) (λ e. pick b 13 i.Le _ y e (λ p q. leaf b 13 [] i.Le y (Unit {0}) p q refl (λ f. tt)) (λ e. pick b 14 i.Gt _ y e (λ p q. leaf b 14 [] i.Gt y (Unit {0}) p q refl (λ f. tt)) (λ e. pick b 15 i.Ge _ y e (λ p q. leaf b 15 [] i.Ge y (Unit {0}) p q refl (λ f. tt)) (λ e. pick b 28 i.Return _ y e (λ p q. leaf b 28 [] i.Return y (Unit {0}) p q refl (λ f. tt)) (λ e. pick b 29 i.Pop _ y e (λ p q. leaf b 29 [] i.Pop y (Unit {0}) p q refl (λ f. tt)) (λ e. pick b 30 i.Assert _ y e (λ p q. leaf b 30 [] i.Assert y (Unit {0}) p q refl (λ f. tt)) (λ e. absurd cc))))))))))))))))))
+plain_takes b y e = pick b 1 i.False _ y e (λ p q. leaf b 1 [] i.False y (Unit {0}) p q refl (λ f. tt))
+    (λ e. pick b 2 i.True _ y e (λ p q. leaf b 2 [] i.True y (Unit {0}) p q refl (λ f. tt))
+    (λ e. pick b 3 i.Add _ y e (λ p q. leaf b 3 [] i.Add y (Unit {0}) p q refl (λ f. tt)) (λ e. pick b 4 i.Sub _ y e (λ p q. leaf b 4 [] i.Sub y (Unit {0}) p q refl (λ f. tt))
+    (λ e. pick b 5 i.Mul _ y e (λ p q. leaf b 5 [] i.Mul y (Unit {0}) p q refl (λ f. tt)) (λ e. pick b 6 i.Div _ y e (λ p q. leaf b 6 [] i.Div y (Unit {0}) p q refl (λ f. tt))
+    (λ e. pick b 7 i.Rem _ y e (λ p q. leaf b 7 [] i.Rem y (Unit {0}) p q refl (λ f. tt)) (λ e. pick b 8 i.Neg _ y e (λ p q. leaf b 8 [] i.Neg y (Unit {0}) p q refl (λ f. tt))
+    (λ e. pick b 9 i.Not _ y e (λ p q. leaf b 9 [] i.Not y (Unit {0}) p q refl (λ f. tt)) (λ e. pick b 10 i.Eq _ y e (λ p q. leaf b 10 [] i.Eq y (Unit {0}) p q refl (λ f. tt))
+    (λ e. pick b 11 i.Ne _ y e (λ p q. leaf b 11 [] i.Ne y (Unit {0}) p q refl (λ f. tt)) (λ e. pick b 12 i.Lt _ y e (λ p q. leaf b 12 [] i.Lt y (Unit {0}) p q refl (λ f. tt))
+    (λ e. pick b 13 i.Le _ y e (λ p q. leaf b 13 [] i.Le y (Unit {0}) p q refl (λ f. tt)) (λ e. pick b 14 i.Gt _ y e (λ p q. leaf b 14 [] i.Gt y (Unit {0}) p q refl (λ f. tt))
+    (λ e. pick b 15 i.Ge _ y e (λ p q. leaf b 15 [] i.Ge y (Unit {0}) p q refl (λ f. tt)) (λ e. pick b 28 i.Return _ y e (λ p q. leaf b 28 [] i.Return y (Unit {0}) p q refl (λ f. tt))
+    (λ e. pick b 29 i.Pop _ y e (λ p q. leaf b 29 [] i.Pop y (Unit {0}) p q refl (λ f. tt))
+    (λ e. pick b 30 i.Assert _ y e (λ p q. leaf b 30 [] i.Assert y (Unit {0}) p q refl (λ f. tt)) (λ e. absurd cc))))))))))))))))))
 
 one_takes : (b n : ℕ) (y : Instr) → of_one b n ≡ Some y → (instr y ≡ b ∷ num n) × (FitsNum n → FitsInstr y)
 unfolding instr
-one_takes b n y e = pick b 16 (i.Load n) _ y e (λ p q. leaf b 16 (num n) (i.Load n) y (FitsNum n) p q refl (λ f. f)) (λ e. pick b 17 (i.Store n) _ y e (λ p q. leaf b 17 (num n) (i.Store n) y (FitsNum n) p q refl (λ f. f)) (λ e. pick b 18 (i.Word n) _ y e (λ p q. leaf b 18 (num n) (i.Word n) y (FitsNum n) p q refl (λ f. f)) (λ e. pick b 19 (i.Put n) _ y e (λ p q. leaf b 19 (num n) (i.Put n) y (FitsNum n) p q refl (λ f. f)) (λ e. pick b 20 (i.AddWord n) _ y e (λ p q. leaf b 20 (num n) (i.AddWord n) y (FitsNum n) p q refl (λ f. f)) (λ e. pick b 24 (i.Jump n) _ y e (λ p q. leaf b 24 (num n) (i.Jump n) y (FitsNum n) p q refl (λ f. f)) (λ e. pick b 25 (i.Branch n) _ y e (λ p q. leaf b 25 (num n) (i.Branch n) y (FitsNum n) p q refl (λ f. f)) (λ e. pick b 26 (i.Loop n) _ y e (λ p q. leaf b 26 (num n) (i.Loop n) y (FitsNum n) p q refl (λ f. f)) (λ e. pick b 27 (i.Call n) _ y e (λ p q. leaf b 27 (num n) (i.Call n) y (FitsNum n) p q refl (λ f. f)) (λ e. absurd cc)))))))))
+one_takes b n y e = pick b 16 (i.Load n) _ y e (λ p q. leaf b 16 (num n) (i.Load n) y (FitsNum n) p q refl (λ f. f))
+    (λ e. pick b 17 (i.Store n) _ y e (λ p q. leaf b 17 (num n) (i.Store n) y (FitsNum n) p q refl (λ f. f))
+    (λ e. pick b 18 (i.Word n) _ y e (λ p q. leaf b 18 (num n) (i.Word n) y (FitsNum n) p q refl (λ f. f))
+    (λ e. pick b 19 (i.Put n) _ y e (λ p q. leaf b 19 (num n) (i.Put n) y (FitsNum n) p q refl (λ f. f))
+    (λ e. pick b 20 (i.AddWord n) _ y e (λ p q. leaf b 20 (num n) (i.AddWord n) y (FitsNum n) p q refl (λ f. f))
+    (λ e. pick b 24 (i.Jump n) _ y e (λ p q. leaf b 24 (num n) (i.Jump n) y (FitsNum n) p q refl (λ f. f))
+    (λ e. pick b 25 (i.Branch n) _ y e (λ p q. leaf b 25 (num n) (i.Branch n) y (FitsNum n) p q refl (λ f. f))
+    (λ e. pick b 26 (i.Loop n) _ y e (λ p q. leaf b 26 (num n) (i.Loop n) y (FitsNum n) p q refl (λ f. f))
+    (λ e. pick b 27 (i.Call n) _ y e (λ p q. leaf b 27 (num n) (i.Call n) y (FitsNum n) p q refl (λ f. f)) (λ e. absurd cc)))))))))
 
 two_takes : (b m n : ℕ) (y : Instr) → of_two b m n ≡ Some y → (instr y ≡ b ∷ num m ++ num n) × (FitsNum m × FitsNum n → FitsInstr y)
 unfolding instr
-two_takes b m n y e = pick b 21 (i.Item m n) _ y e (λ p q. leaf b 21 (num m ++ num n) (i.Item m n) y (FitsNum m × FitsNum n) p q refl (λ f. f)) (λ e. pick b 22 (i.SetItem m n) _ y e (λ p q. leaf b 22 (num m ++ num n) (i.SetItem m n) y (FitsNum m × FitsNum n) p q refl (λ f. f)) (λ e. pick b 23 (i.AddItem m n) _ y e (λ p q. leaf b 23 (num m ++ num n) (i.AddItem m n) y (FitsNum m × FitsNum n) p q refl (λ f. f)) (λ e. pick b 32 (i.Par m n) _ y e (λ p q. leaf b 32 (num m ++ num n) (i.Par m n) y (FitsNum m × FitsNum n) p q refl (λ f. f)) (λ e. absurd cc))))
+two_takes b m n y e = pick b 21 (i.Item m n) _ y e (λ p q. leaf b 21 (num m ++ num n) (i.Item m n) y (FitsNum m × FitsNum n) p q refl (λ f. f))
+    (λ e. pick b 22 (i.SetItem m n) _ y e (λ p q. leaf b 22 (num m ++ num n) (i.SetItem m n) y (FitsNum m × FitsNum n) p q refl (λ f. f))
+    (λ e. pick b 23 (i.AddItem m n) _ y e (λ p q. leaf b 23 (num m ++ num n) (i.AddItem m n) y (FitsNum m × FitsNum n) p q refl (λ f. f))
+    (λ e. pick b 32 (i.Par m n) _ y e (λ p q. leaf b 32 (num m ++ num n) (i.Par m n) y (FitsNum m × FitsNum n) p q refl (λ f. f)) (λ e. absurd cc))))
 
 -- what is behind an instruction's byte
 record Behind (b : ℕ) (rest : List ℕ) (x : Instr × List ℕ) : Type 0 where
@@ -214,7 +248,8 @@ behind_plain : (b : ℕ) (rest : List ℕ) (x : Instr × List ℕ) → IsBytes r
 behind_plain b rest x h e =
     let y = bind_some (plain_of b) (λ y. Some (y, rest)) x e in
     let found = plain_takes b y.0 y.1 in
-    subst (λ (z : Instr × List ℕ). Behind b rest z) (some_same (y.0, rest) x (Some (y.0, rest)) refl y.2) (record { parts = ap (λ (l : List ℕ). l ++ rest) (sym found.0); fits = found.1 tt; rest_bytes = h })
+    subst (λ (z : Instr × List ℕ). Behind b rest z) (some_same (y.0, rest) x (Some (y.0, rest)) refl y.2)
+    (record { parts = ap (λ (l : List ℕ). l ++ rest) (sym found.0); fits = found.1 tt; rest_bytes = h })
 
 behind_one : (b : ℕ) (rest : List ℕ) (x : Instr × List ℕ) → IsBytes rest → (num32_at rest >>= (λ n. of_one b n.0 >>= (λ y. Some (y, n.1)))) ≡ Some x → Behind b rest x
 behind_one b rest x h e =
@@ -222,7 +257,8 @@ behind_one b rest x h e =
     let y = bind_some (of_one b n.0.0) (λ y. Some (y, n.0.1)) x n.2 in
     let found = one_takes b n.0.0 y.0 y.1 in
     let taken = num32_form.takes rest n.0 h n.1 in
-    subst (λ (z : Instr × List ℕ). Behind b rest z) (some_same (y.0, n.0.1) x (Some (y.0, n.0.1)) refl y.2) (record { parts = ap (λ (l : List ℕ). b ∷ l) taken.parts ∙ ap (λ (l : List ℕ). l ++ n.0.1) (sym found.0); fits = found.1 taken.fits; rest_bytes = taken.rest_bytes })
+    subst (λ (z : Instr × List ℕ). Behind b rest z) (some_same (y.0, n.0.1) x (Some (y.0, n.0.1)) refl y.2)
+    (record { parts = ap (λ (l : List ℕ). b ∷ l) taken.parts ∙ ap (λ (l : List ℕ). l ++ n.0.1) (sym found.0); fits = found.1 taken.fits; rest_bytes = taken.rest_bytes })
 
 behind_two : (b : ℕ) (rest : List ℕ) (x : Instr × List ℕ) → IsBytes rest → (num32_at rest >>= (λ m. num32_at m.1 >>= (λ n. of_two b m.0 n.0 >>= (λ y. Some (y, n.1))))) ≡ Some x → Behind b rest x
 behind_two b rest x h e =
@@ -233,7 +269,8 @@ behind_two b rest x h e =
     let first = num32_form.takes rest m.0 h m.1 in
     let second = num32_form.takes m.0.1 n.0 first.rest_bytes n.1 in
     let both = parts_then rest (num m.0.0) m.0.1 (num n.0.0) n.0.1 first.parts second.parts in
-    subst (λ (z : Instr × List ℕ). Behind b rest z) (some_same (y.0, n.0.1) x (Some (y.0, n.0.1)) refl y.2) (record { parts = ap (λ (l : List ℕ). b ∷ l) both ∙ ap (λ (l : List ℕ). l ++ n.0.1) (sym found.0); fits = found.1 (first.fits, second.fits); rest_bytes = second.rest_bytes })
+    subst (λ (z : Instr × List ℕ). Behind b rest z) (some_same (y.0, n.0.1) x (Some (y.0, n.0.1)) refl y.2)
+    (record { parts = ap (λ (l : List ℕ). b ∷ l) both ∙ ap (λ (l : List ℕ). l ++ n.0.1) (sym found.0); fits = found.1 (first.fits, second.fits); rest_bytes = second.rest_bytes })
 
 -- either side of a test
 sides : {A P : Type 0} (t : Bool) (x y : Option A) (z : A) → cond t x y ≡ Some z → (x ≡ Some z → P) → (y ≡ Some z → P) → P
@@ -247,12 +284,14 @@ operands_take b rest x h e =
     (λ p e.
     let z = bind_some (zig_at rest) (λ z. Some (i.Int z.0, z.1)) x e in
     let taken = zig_form.takes rest z.0 h z.1 in
-    subst (λ (y : Instr × List ℕ). Behind b rest y) (some_same (i.Int z.0.0, z.0.1) x (Some (i.Int z.0.0, z.0.1)) refl z.2) (record { parts = rw p (ap (λ (l : List ℕ). 0 ∷ l) taken.parts); fits = taken.fits; rest_bytes = taken.rest_bytes }))
+    subst (λ (y : Instr × List ℕ). Behind b rest y) (some_same (i.Int z.0.0, z.0.1) x (Some (i.Int z.0.0, z.0.1)) refl z.2)
+    (record { parts = rw p (ap (λ (l : List ℕ). 0 ∷ l) taken.parts); fits = taken.fits; rest_bytes = taken.rest_bytes }))
     (λ e. choose b 0x1f (counted_at print_item_at rest >>= (λ items. Some (i.Print items.0, items.1))) _ x e
     (λ p e.
     let z = bind_some (counted_at print_item_at rest) (λ items. Some (i.Print items.0, items.1)) x e in
     let taken = items_form.takes rest z.0 h z.1 in
-    subst (λ (y : Instr × List ℕ). Behind b rest y) (some_same (i.Print z.0.0, z.0.1) x (Some (i.Print z.0.0, z.0.1)) refl z.2) (record { parts = rw p (ap (λ (l : List ℕ). 0x1f ∷ l) taken.parts); fits = taken.fits; rest_bytes = taken.rest_bytes }))
+    subst (λ (y : Instr × List ℕ). Behind b rest y) (some_same (i.Print z.0.0, z.0.1) x (Some (i.Print z.0.0, z.0.1)) refl z.2)
+    (record { parts = rw p (ap (λ (l : List ℕ). 0x1f ∷ l) taken.parts); fits = taken.fits; rest_bytes = taken.rest_bytes }))
     (λ e. sides (takes_two b) _ _ x e (λ e. behind_two b rest x h e)
     (λ e. sides (ltb b 0x10) _ _ x e (λ e. behind_plain b rest x h e)
     (λ e. sides (ltb b 0x1c) _ _ x e (λ e. behind_one b rest x h e) (λ e. behind_plain b rest x h e)))))
@@ -320,7 +359,8 @@ pub code_form : (params : ℕ) (result : Gives) → IsForm code (FitsCode params
 unfolding code_at
 code_form params result = record {
   takes = λ bytes x h e.
-      let a = bind_some (counted_at (byte_at kind_of) bytes) (λ locals. counted_at instr_at locals.1 >>= λ instrs. Some (record { params = params; gives = result; locals = locals.0; instrs = instrs.0 }, instrs.1)) x e in
+      let a = bind_some (counted_at (byte_at kind_of) bytes) (λ locals. counted_at instr_at locals.1 >>= λ instrs. Some
+      (record { params = params; gives = result; locals = locals.0; instrs = instrs.0 }, instrs.1)) x e in
       let b = bind_some (counted_at instr_at a.0.1) (λ instrs. Some (record { params = params; gives = result; locals = a.0.0; instrs = instrs.0 }, instrs.1)) x a.2 in
       let locals = locals_form.takes bytes a.0 h a.1 in
       let instrs = instrs_form.takes a.0.1 b.0 locals.rest_bytes b.1 in
@@ -329,7 +369,8 @@ code_form params result = record {
       (record { parts = parts_then bytes (counted kind a.0.0) a.0.1 (counted instr b.0.0) b.0.1 locals.parts instrs.parts; fits = record { params = refl; gives = refl; locals = locals.fits; instrs = instrs.fits }; rest_bytes = instrs.rest_bytes });
   again = λ c rest fits.
       let regrouped : code c ++ rest ≡ counted kind c.locals ++ (counted instr c.instrs ++ rest) = append_assoc (counted kind c.locals) (counted instr c.instrs) rest in
-      ap (code_at params result) regrouped ∙ rw (locals_form.again c.locals (counted instr c.instrs ++ rest) fits.locals, instrs_form.again c.instrs rest fits.instrs) (rw (← fits.params, ← fits.gives) refl);
+      ap (code_at params result) regrouped ∙ rw (locals_form.again c.locals (counted instr c.instrs ++ rest) fits.locals, instrs_form.again c.instrs rest fits.instrs)
+      (rw (← fits.params, ← fits.gives) refl);
 }
 
 -- ---- functions
@@ -356,8 +397,10 @@ function_form = record { takes = takes; again = again }
 
     again : (c : Code) (rest : List ℕ) → FitsFunction c → function_at (function c ++ rest) ≡ Some (c, rest)
     again c rest fits =
-        let regrouped : function c ++ rest ≡ num c.params ++ (given c.gives ++ (code c ++ rest)) = append_assoc (num c.params ++ given c.gives) (code c) rest ∙ append_assoc (num c.params) (given c.gives) (code c ++ rest) in
-        ap function_at regrouped ∙ rw (num_form.again c.params (given c.gives ++ (code c ++ rest)) (omega (arith, fits.0)), given_form.again c.gives (code c ++ rest) tt, lt-ltb c.params 256 fits.0) ((code_form c.params c.gives).again c rest fits.1)
+        let regrouped : function c ++ rest ≡ num c.params ++ (given c.gives ++ (code c ++ rest)) = append_assoc (num c.params ++ given c.gives) (code c) rest
+        ∙ append_assoc (num c.params) (given c.gives) (code c ++ rest) in
+        ap function_at regrouped ∙ rw (num_form.again c.params (given c.gives ++ (code c ++ rest)) (omega (arith, fits.0)), given_form.again c.gives (code c ++ rest) tt, lt-ltb c.params 256 fits.0)
+        ((code_form c.params c.gives).again c rest fits.1)
 
 -- ---- modules
 
@@ -443,7 +486,8 @@ pub ascending_holds : (least : ℕ) (ns : List ℕ) → are_ascending_from least
 ascending_holds least [] e = tt
 ascending_holds least (n ∷ ns) e = tested (ltb n least) refl e (λ e. ascending_holds (n + 1) ns e)
   where
-    tested : (t : Bool) → ltb n least ≡ t → cond t false (are_ascending_from (n + 1) ns) ≡ true → (are_ascending_from (n + 1) ns ≡ true → AreAscendingFrom (n + 1) ns) → (least ≤ n) × AreAscendingFrom (n + 1) ns
+    tested : (t : Bool) → ltb n least ≡ t → cond t false (are_ascending_from (n + 1) ns) ≡ true → (are_ascending_from (n + 1) ns ≡ true → AreAscendingFrom (n + 1) ns)
+        → (least ≤ n) × AreAscendingFrom (n + 1) ns
     tested true t e more = absurd cc
     tested false t e more = (ltb-false n least t, more e)
 
@@ -460,7 +504,8 @@ regroup a b c d e f g = simp append_assoc
 
 spelling_parts : (m : Module) → spelling m ≡ 0x43 ∷ 0x53 ∷ 0x4c ∷ 0x31 ∷ body m
 unfolding spelling
-spelling_parts m = ap (λ (l : List ℕ). 0x43 ∷ 0x53 ∷ 0x4c ∷ 0x31 ∷ l) (regroup (num m.words) (counted num m.tallies) (counted initial m.initial) (counted text m.texts) (counted function m.functions) (counted code m.blocks) (code m.main))
+spelling_parts m = ap (λ (l : List ℕ). 0x43 ∷ 0x53 ∷ 0x4c ∷ 0x31 ∷ l) (regroup (num m.words) (counted num m.tallies) (counted initial m.initial) (counted text m.texts) (counted function m.functions)
+    (counted code m.blocks) (code m.main))
 
 begun_takes : (bytes rest : List ℕ) → begun_at bytes ≡ Some rest → bytes ≡ 0x43 ∷ 0x53 ∷ 0x4c ∷ 0x31 ∷ rest
 unfolding begun_at
@@ -469,7 +514,9 @@ begun_takes (a ∷ []) rest e = absurd cc
 begun_takes (a ∷ b ∷ []) rest e = absurd cc
 begun_takes (a ∷ b ∷ c ∷ []) rest e = absurd cc
 begun_takes (a ∷ b ∷ c ∷ d ∷ more) rest e =
-    choose a 0x43 _ None rest e (λ p e. choose b 0x53 _ None rest e (λ q e. choose c 0x4c _ None rest e (λ r e. choose d 0x31 (Some more) None rest e (λ s e. rw (p, q, r, s) (ap (λ (l : List ℕ). 0x43 ∷ 0x53 ∷ 0x4c ∷ 0x31 ∷ l) (some_same more rest (Some more) refl e))) (λ e. absurd cc)) (λ e. absurd cc)) (λ e. absurd cc)) (λ e. absurd cc)
+    choose a 0x43 _ None rest e (λ p e. choose b 0x53 _ None rest e (λ q e. choose c 0x4c _ None rest e
+    (λ r e. choose d 0x31 (Some more) None rest e (λ s e. rw (p, q, r, s) (ap (λ (l : List ℕ). 0x43 ∷ 0x53 ∷ 0x4c ∷ 0x31 ∷ l) (some_same more rest (Some more) refl e))) (λ e. absurd cc))
+    (λ e. absurd cc)) (λ e. absurd cc)) (λ e. absurd cc)
 
 pub module_again : (m : Module) → HasSpelling m → module_of (spelling m) ≡ Some m
 unfolding module_of begun_at
@@ -485,13 +532,16 @@ pub record Parts (bytes : List ℕ) (m : Module) : Type 0 where
   pub spelled : HasSpelling m
   pub parts : bytes ≡ spelling m
 
-joined : (bytes w a b c d e f r1 r2 r3 r4 r5 r6 : List ℕ) → bytes ≡ w ++ r1 → r1 ≡ a ++ r2 → r2 ≡ b ++ r3 → r3 ≡ c ++ r4 → r4 ≡ d ++ r5 → r5 ≡ e ++ r6 → r6 ≡ f ++ [] → bytes ≡ w ++ (a ++ (b ++ (c ++ (d ++ (e ++ f)))))
+joined : (bytes w a b c d e f r1 r2 r3 r4 r5 r6 : List ℕ) → bytes ≡ w ++ r1 → r1 ≡ a ++ r2 → r2 ≡ b ++ r3 → r3 ≡ c ++ r4 → r4 ≡ d ++ r5 → r5 ≡ e ++ r6 → r6 ≡ f ++ []
+    → bytes ≡ w ++ (a ++ (b ++ (c ++ (d ++ (e ++ f)))))
 joined bytes w a b c d e f r1 r2 r3 r4 r5 r6 p0 p1 p2 p3 p4 p5 p6 = p0 ∙ rw (p1, p2, p3, p4, p5, p6, append-nil f) refl
 
 -- eight steps that did not fail, one after another
-steps : {S A B C D E F G M P : Type 0} (s : Option S) (ra : S → Option A) (rb : A → Option B) (rc : A → B → Option C) (rd : A → B → C → Option D) (re : A → B → C → D → Option E) (rf : A → B → C → D → E → Option F) (rg : A → B → C → D → E → F → Option G) (end : A → B → C → D → E → F → G → Option M) (m : M)
+steps : {S A B C D E F G M P : Type 0} (s : Option S) (ra : S → Option A) (rb : A → Option B) (rc : A → B → Option C) (rd : A → B → C → Option D) (re : A → B → C → D → Option E)
+    (rf : A → B → C → D → E → Option F) (rg : A → B → C → D → E → F → Option G) (end : A → B → C → D → E → F → G → Option M) (m : M)
     → (s >>= λ s. ra s >>= λ a. rb a >>= λ b. rc a b >>= λ c. rd a b c >>= λ d. re a b c d >>= λ e. rf a b c d e >>= λ f. rg a b c d e f >>= λ g. end a b c d e f g) ≡ Some m
-    → ((s' : S) (a : A) (b : B) (c : C) (d : D) (e : E) (f : F) (g : G) → s ≡ Some s' → ra s' ≡ Some a → rb a ≡ Some b → rc a b ≡ Some c → rd a b c ≡ Some d → re a b c d ≡ Some e → rf a b c d e ≡ Some f → rg a b c d e f ≡ Some g → end a b c d e f g ≡ Some m → P) → P
+    → ((s' : S) (a : A) (b : B) (c : C) (d : D) (e : E) (f : F) (g : G) → s ≡ Some s' → ra s' ≡ Some a → rb a ≡ Some b → rc a b ≡ Some c → rd a b c ≡ Some d → re a b c d ≡ Some e
+    → rf a b c d e ≡ Some f → rg a b c d e f ≡ Some g → end a b c d e f g ≡ Some m → P) → P
 steps s ra rb rc rd re rf rg end m h go =
     let s' = bind_some s _ m h in
     let a = bind_some (ra s'.0) _ m s'.2 in
@@ -505,14 +555,18 @@ steps s ra rb rc rd re rf rg end m h go =
 
 abbrev finish : ℕ × List ℕ → List ℕ × List ℕ → List (ℕ × ℤ) × List ℕ → List (List ℕ) × List ℕ → List Code × List ℕ → List Code × List ℕ → Code × List ℕ → Option Module
 finish words tallies initial texts functions blocks main =
-    cond (are_ascending_from 0 tallies.0 && (are_ascending_from 0 (map (λ (e : ℕ × ℤ). e.0) initial.0) && eqb (length main.1) 0)) (Some (record { words = words.0; tallies = tallies.0; initial = initial.0; texts = texts.0; functions = functions.0; blocks = blocks.0; main = main.0 })) None
+    cond (are_ascending_from 0 tallies.0 && (are_ascending_from 0 (map (λ (e : ℕ × ℤ). e.0) initial.0) && eqb (length main.1) 0))
+    (Some (record { words = words.0; tallies = tallies.0; initial = initial.0; texts = texts.0; functions = functions.0; blocks = blocks.0; main = main.0 })) None
 
 four : (bytes begun : List ℕ) → IsBytes bytes → bytes ≡ 0x43 ∷ 0x53 ∷ 0x4c ∷ 0x31 ∷ begun → IsBytes begun
 four bytes begun h e i = (subst IsBytes e h) (suc (suc (suc (suc i))))
 
-finished : (words : ℕ × List ℕ) (tallies : List ℕ × List ℕ) (initial : List (ℕ × ℤ) × List ℕ) (texts : List (List ℕ) × List ℕ) (functions : List Code × List ℕ) (blocks : List Code × List ℕ) (main : Code × List ℕ) (bytes begun : List ℕ) (m : Module)
-    → bytes ≡ 0x43 ∷ 0x53 ∷ 0x4c ∷ 0x31 ∷ begun → Takes num FitsNum begun words → Takes (counted num) (Counted FitsNum) words.1 tallies → Takes (counted Spelling.initial) (Counted FitsInitial) tallies.1 initial → Takes (counted text) (Counted FitsText) initial.1 texts
-    → Takes (counted function) (Counted FitsFunction) texts.1 functions → Takes (counted code) (Counted FitsBlock) functions.1 blocks → Takes code FitsMain blocks.1 main → finish words tallies initial texts functions blocks main ≡ Some m → Parts bytes m
+finished : (words : ℕ × List ℕ) (tallies : List ℕ × List ℕ) (initial : List (ℕ × ℤ) × List ℕ) (texts : List (List ℕ) × List ℕ) (functions : List Code × List ℕ) (blocks : List Code × List ℕ)
+    (main : Code × List ℕ) (bytes begun : List ℕ) (m : Module)
+    → bytes ≡ 0x43 ∷ 0x53 ∷ 0x4c ∷ 0x31 ∷ begun → Takes num FitsNum begun words → Takes (counted num) (Counted FitsNum) words.1 tallies
+    → Takes (counted Spelling.initial) (Counted FitsInitial) tallies.1 initial → Takes (counted text) (Counted FitsText) initial.1 texts
+    → Takes (counted function) (Counted FitsFunction) texts.1 functions → Takes (counted code) (Counted FitsBlock) functions.1 blocks → Takes code FitsMain blocks.1 main
+    → finish words tallies initial texts functions blocks main ≡ Some m → Parts bytes m
 finished words tallies initial texts functions blocks main bytes begun m start w t i' x f b c e =
     let made : Module = record { words = words.0; tallies = tallies.0; initial = initial.0; texts = texts.0; functions = functions.0; blocks = blocks.0; main = main.0 } in
     let tested = when_some (are_ascending_from 0 tallies.0 && (are_ascending_from 0 (map (λ (e : ℕ × ℤ). e.0) initial.0) && eqb (length main.1) 0)) (Some made) m e in
@@ -520,7 +574,8 @@ finished words tallies initial texts functions blocks main bytes begun m start w
     let up_too = and_parts (are_ascending_from 0 (map (λ (e : ℕ × ℤ). e.0) initial.0)) (eqb (length main.1) 0) up.1 in
     let nothing : main.1 ≡ [] = nil_from_length main.1 (eqb-true (length main.1) 0 up_too.1) in
     let last : blocks.1 ≡ code main.0 ++ [] = subst (λ (r : List ℕ). blocks.1 ≡ code main.0 ++ r) nothing c.parts in
-    let all : begun ≡ body made = joined begun (num words.0) (counted num tallies.0) (counted Spelling.initial initial.0) (counted text texts.0) (counted function functions.0) (counted code blocks.0) (code main.0) words.1 tallies.1 initial.1 texts.1 functions.1 blocks.1 w.parts t.parts i'.parts x.parts f.parts b.parts last in
+    let all : begun ≡ body made = joined begun (num words.0) (counted num tallies.0) (counted Spelling.initial initial.0) (counted text texts.0) (counted function functions.0) (counted code blocks.0)
+    (code main.0) words.1 tallies.1 initial.1 texts.1 functions.1 blocks.1 w.parts t.parts i'.parts x.parts f.parts b.parts last in
     let whole : bytes ≡ spelling made = start ∙ ap (λ (l : List ℕ). 0x43 ∷ 0x53 ∷ 0x4c ∷ 0x31 ∷ l) all ∙ sym (spelling_parts made) in
     subst (λ (n : Module). Parts bytes n) (some_same made m (Some made) refl tested.1)
     (record { spelled = record { words = w.fits; tallies = (t.fits, ascending_holds 0 tallies.0 up.0); initial = (i'.fits, ascending_holds 0 (map (λ (e : ℕ × ℤ). e.0) initial.0) up_too.0); texts = x.fits; functions = f.fits; blocks = b.fits; main = c.fits }; parts = whole })
@@ -528,7 +583,9 @@ finished words tallies initial texts functions blocks main bytes begun m start w
 pub module_takes : (bytes : List ℕ) (m : Module) → IsBytes bytes → module_of bytes ≡ Some m → Parts bytes m
 unfolding module_of
 module_takes bytes m h e =
-    steps (begun_at bytes) num32_at (λ words. counted_at num32_at words.1) (λ words tallies. counted_at initial_at tallies.1) (λ words tallies initial. counted_at text_at initial.1) (λ words tallies initial texts. counted_at function_at texts.1) (λ words tallies initial texts functions. counted_at (code_at 2 gives.Nothing) functions.1) (λ words tallies initial texts functions blocks. code_at 0 gives.Nothing blocks.1) finish m e
+    steps (begun_at bytes) num32_at (λ words. counted_at num32_at words.1) (λ words tallies. counted_at initial_at tallies.1) (λ words tallies initial. counted_at text_at initial.1)
+    (λ words tallies initial texts. counted_at function_at texts.1) (λ words tallies initial texts functions. counted_at (code_at 2 gives.Nothing) functions.1)
+    (λ words tallies initial texts functions blocks. code_at 0 gives.Nothing blocks.1) finish m e
     (λ begun words tallies initial texts functions blocks main e0 e1 e2 e3 e4 e5 e6 e7 e8.
     let start = begun_takes bytes begun e0 in
     let w = num32_form.takes begun words (four bytes begun h start) e1 in

@@ -1,5 +1,6 @@
 -- Numbers: what is read is spelled so, and what is spelled so is read.
-use Rattle.std.proofs.Common.{◌≡◌, ℕ, zero, suc, ◌+◌, ◌-◌, ◌*◌, ◌/◌, ◌%◌, ◌^◌, ◌<◌, ◌≤◌, Bool, true, false, cond, ltb, eqb, List, [], ◌∷◌, ◌++◌, get_or, Option, Some, None, refl, sym, ap, subst, ◌∙◌, arith, inl, inr}
+use Rattle.std.proofs.Common.{◌≡◌, ℕ, zero, suc, ◌+◌, ◌-◌, ◌*◌, ◌/◌, ◌%◌, ◌^◌, ◌<◌, ◌≤◌, Bool, true, false, cond, ltb, eqb, List, [], ◌∷◌, ◌++◌, get_or, Option, Some, None, refl, sym, ap, subst, ◌∙◌}
+use Rattle.std.proofs.Common.{arith, inl, inr}
 use Rattle.std.proofs.lemmas.Bool.{cases_lt, ltb-true, ltb-false, lt-ltb, le-ltb, eqb-false, ne_eqb}
 use Rattle.std.proofs.lemmas.Nat.{div_below}
 use Rattle.bytecode.specs.Spelling.{num_in, num}
@@ -54,7 +55,9 @@ num_takes (suc most) (b ∷ bytes) x h e = tested (λ high more. num_takes most 
     rest_bytes : IsBytes bytes
     rest_bytes i = h (suc i)
 
-    tested : ((high : ℕ × List ℕ) → num_at most bytes ≡ Some high → Takes (num_in most) (λ n. n < 2 ^ 64) bytes high) → (t : Bool) → ltb b 128 ≡ t → cond t (Some (b, bytes)) (num_at most bytes >>= (λ high. cond (eqb high.0 0) None (cond (ltb high.0 (2 ^ 57)) (Some (b - 128 + 128 * high.0, high.1)) None))) ≡ Some x → Takes (num_in (suc most)) (λ n. n < 2 ^ 64) (b ∷ bytes) x
+    tested : ((high : ℕ × List ℕ) → num_at most bytes ≡ Some high → Takes (num_in most) (λ n. n < 2 ^ 64) bytes high) → (t : Bool) → ltb b 128 ≡ t
+        → cond t (Some (b, bytes)) (num_at most bytes >>= (λ high. cond (eqb high.0 0) None (cond (ltb high.0 (2 ^ 57)) (Some (b - 128 + 128 * high.0, high.1)) None))) ≡ Some x
+        → Takes (num_in (suc most)) (λ n. n < 2 ^ 64) (b ∷ bytes) x
     tested ih true t e =
         let lt : b < 128 = ltb-true b 128 t in
         subst (λ (y : ℕ × List ℕ). Takes (num_in (suc most)) (λ n. n < 2 ^ 64) (b ∷ bytes) y) (some_same (b, bytes) x (Some (b, bytes)) refl e)
@@ -86,7 +89,8 @@ num_again_one : (most n : ℕ) (rest : List ℕ) → n < 128 → num_at (suc mos
 unfolding num_at num_in
 num_again_one most n rest small = rw (lt-ltb n 128 small) (rw (lt-ltb n 128 small) refl)
 
-num_again_more : (most n : ℕ) (rest : List ℕ) → 128 ≤ n → n < 2 ^ 64 → num_at most (num_in most (n / 128) ++ rest) ≡ Some (n / 128, rest) → num_at (suc most) (num_in (suc most) n ++ rest) ≡ Some (n, rest)
+num_again_more : (most n : ℕ) (rest : List ℕ) → 128 ≤ n → n < 2 ^ 64 → num_at most (num_in most (n / 128) ++ rest) ≡ Some (n / 128, rest)
+    → num_at (suc most) (num_in (suc most) n ++ rest) ≡ Some (n, rest)
 unfolding num_at num_in
 num_again_more most n rest big fits ih =
     let not_one : ltb n 128 ≡ false = le-ltb n 128 big in

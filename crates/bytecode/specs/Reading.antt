@@ -1,6 +1,7 @@
 -- Reading bytes from left to right.
 -- For the proof of the body: no public clause cites this.
-use Rattle.std.specs.Prelude.{◌≡◌, ℕ, zero, suc, ◌+◌, ◌-◌, ◌*◌, ◌/◌, ◌%◌, ◌^◌, nat_lt, nat_le, ◌==◌, if◌then◌else◌, Bool, true, false, ◌&&◌, ℤ, pos, negsuc, List, [], ◌∷◌, length, take, drop, map, Option, Some, None, Result, Ok, Err}
+use Rattle.std.specs.Prelude.{◌≡◌, ℕ, zero, suc, ◌+◌, ◌-◌, ◌*◌, ◌/◌, ◌%◌, ◌^◌, nat_lt, nat_le, ◌==◌, if◌then◌else◌, Bool, true, false, ◌&&◌}
+use Rattle.std.specs.Prelude.{ℤ, pos, negsuc, List, [], ◌∷◌, length, take, drop, map, Option, Some, None, Result, Ok, Err}
 use Rattle.std.specs.Ordering.{int_eq}
 use Rattle.bytecode.specs.declared.fault.DecodeError.{DecodeError}
 use Rattle.bytecode.specs.declared.fault.DecodeError.TheVariants.{Refused, NoMemory}
@@ -179,7 +180,8 @@ are_ascending_from least (n ∷ rest) = if nat_lt n least then false else are_as
 
 -- the four bytes before a module
 unfoldable pub begun_at : List ℕ → Option (List ℕ)
-begun_at (a ∷ b ∷ c ∷ d ∷ rest) = if a == 0x43 then (if b == 0x53 then (if c == 0x4c then (if d == 0x31 then Some rest else None) else None) else None) else None
+begun_at (a ∷ b ∷ c ∷ d ∷ rest) = if a == 0x43 then (if b == 0x53 then (if c == 0x4c then (if d == 0x31 then Some rest else None) else None)
+    else None) else None
 begun_at _ = None
 
 -- the module that all of the bytes spell

@@ -442,7 +442,8 @@ fn module(alloc: Global, bytes: &[u8]) -> Result<Module, DecodeError>
 /// The one module that the bytes spell. Entries are kept as they are read, so that a large count alone takes no memory.
 pub fn decode(alloc: Global, bytes: &[u8]) -> Result<Module, DecodeError>
     ensures spelled { IfOk result (λ m. HasSpelling m × (bytes.now ≡ spelling m)) }
-    ensures only { (m : Module) → HasSpelling m → bytes.now ≡ spelling m → MatchResult result (λ found. found ≡ m) (λ e. e ≡ error.NoMemory) }
+    ensures only { (m : Module) → HasSpelling m → bytes.now ≡ spelling m
+        → MatchResult result (λ found. found ≡ m) (λ e. e ≡ error.NoMemory) }
 {
     module(alloc, bytes)
 }

@@ -23,7 +23,8 @@ unfolding page_words
 get_or-page_words memory p i d within = get_or-map-range_with_len (λ a. value_at memory a) (page_size * p) page_size i (page_size * p + i) d within refl
 
 -- a list of as many values, each the memory's, is the page
-pub page_words_of : (memory : Memory) (p : ℕ) (values : List ℤ) → length values ≡ page_size → ((i : ℕ) → i < page_size → get_or values i (pos 0) ≡ value_at memory (page_size * p + i)) → values ≡ page_words memory p
+pub page_words_of : (memory : Memory) (p : ℕ) (values : List ℤ) → length values ≡ page_size → ((i : ℕ) → i < page_size → get_or values i (pos 0) ≡ value_at memory (page_size * p + i))
+    → values ≡ page_words memory p
 page_words_of memory p values size same =
     ext_get_or (pos 0) values (page_words memory p) (size ∙ sym (length-page_words memory p)) (λ i within.
     same i (omega (arith, size)) ∙ sym (get_or-page_words memory p i (pos 0) (omega (arith, size))))

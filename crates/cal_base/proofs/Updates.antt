@@ -37,7 +37,8 @@ pub get_put_other : (update : Written) (a : ℕ) (v : ℤ) (q : ℕ) → (q ≡ 
 get_put_other update a v q apart = get-insert nat_cmp_total update a v q ∙ ap (λ b. cond b (Some v) (get update q)) (untied q a apart)
 
 -- a tree that has one entry more, or another at its address, is the map with that entry
-pub put_is : (before later : Entries) (a : ℕ) (v : ℤ) → ((q : ℕ) → lookup (is_at (nat_cmp q)) later ≡ cond (is_eq (nat_cmp a q)) (Some v) (lookup (is_at (nat_cmp q)) before)) → from_entries {R = nat_cmp} later ≡ insert (from_entries before) a v
+pub put_is : (before later : Entries) (a : ℕ) (v : ℤ) → ((q : ℕ) → lookup (is_at (nat_cmp q)) later ≡ cond (is_eq (nat_cmp a q)) (Some v) (lookup (is_at (nat_cmp q)) before))
+    → from_entries {R = nat_cmp} later ≡ insert (from_entries before) a v
 put_is before later a v is =
     same_map nat_cmp_total nat_cmp-IsAntisymmetric _ _ (λ q.
     get-lookup q later
@@ -60,7 +61,8 @@ skipped None none = refl
 skipped (Some v) none = absurd (none refl)
 
 -- the first entry of a tree from an address on
-pub first_in_range : (tree : BTreeMap ℕ ℤ) (from : ℕ) (entry : ℕ × ℤ) (rest : Entries) → IsRangeOf nat_cmp (Included from) Unbounded tree (entry ∷ rest) → IsNextFrom (from_entries tree.entries) from (Some entry)
+pub first_in_range : (tree : BTreeMap ℕ ℤ) (from : ℕ) (entry : ℕ × ℤ) (rest : Entries) → IsRangeOf nat_cmp (Included from) Unbounded tree (entry ∷ rest)
+    → IsNextFrom (from_entries tree.entries) from (Some entry)
 first_in_range tree from entry rest range = (
   le_from_not_gt from entry.0 range.1.0.0,
   get-lookup entry.0 tree.entries ∙ range.1.1,

@@ -57,4 +57,5 @@ steps_of (Opens job next) = job ∷ steps_behind (meant job) (λ later. steps_of
 abbrev pub IsNumbered : ℕ → Main → Type 0
 IsNumbered steps (Ends ending) = Unit {0}
 IsNumbered steps (Shows line main) = IsNumbered steps main
-IsNumbered steps (Opens job next) = (job.number ≡ suc steps) × (size_of job ≤ MOST_ROUTINES) × ((later : Memory) → IsNumbered (suc steps) (next later))
+IsNumbered steps (Opens job next) = (job.number ≡ suc steps) × (size_of job ≤ MOST_ROUTINES)
+    × ((later : Memory) → IsNumbered (suc steps) (next later))

@@ -69,7 +69,8 @@ module _ (IsTrace : Trace → Type 0) (means : Meaning) (flags : Flags) (rows : 
       (step.ran trace report traced wrote (log_written (log_text trace) flags.log a b c made logged) reported)
 
   -- the run gave up at its log
-  at_log : (o : Option (List ℕ)) → flags.log ≡ o → (ending : Ending) → GivesUp FileFailed o ending → Rose f h → AppendsPrefix u v (text_of flags.steps means.events) → Told a c (KeepsLogFront IsTrace flags.log)
+  at_log : (o : Option (List ℕ)) → flags.log ≡ o → (ending : Ending) → GivesUp FileFailed o ending → Rose f h → AppendsPrefix u v (text_of flags.steps means.events)
+      → Told a c (KeepsLogFront IsTrace flags.log)
       → EndsRun IsTrace (run_of flags.steps means) flags rows (objects_of a u f p) (objects_of c v h q) ending []
   at_log None named ending e rose front left = absurd e
   at_log (Some log) named ending e rose front left =
@@ -89,7 +90,8 @@ module _ (IsTrace : Trace → Type 0) (means : Meaning) (flags : Flags) (rows : 
       (step.no_room front (log_left IsTrace flags.log a b c made trace traced left))
 
   -- the log was not created
-  log_not_made : (o : Option (List ℕ)) → flags.log ≡ o → (ending : Ending) → NotCreated o a b f g ending → EndsRun IsTrace (run_of flags.steps means) flags rows (objects_of a u f p) (objects_of b u g p) ending []
+  log_not_made : (o : Option (List ℕ)) → flags.log ≡ o → (ending : Ending) → NotCreated o a b f g ending
+      → EndsRun IsTrace (run_of flags.steps means) flags rows (objects_of a u f p) (objects_of b u g p) ending []
   log_not_made None named ending e = absurd e
   log_not_made (Some log) named ending e =
       subst (λ x. EndsRun IsTrace (run_of flags.steps means) flags rows (objects_of a u f p) (objects_of b u g p) x []) (sym e.0)

@@ -9,12 +9,14 @@ use Rattle.cal_base.specs.Contents.{Contents, Told, SameFiles, AppendsPrefix}
 use Rattle.csl_reader.specs.Readings as reading
 use Rattle.csl_reader.specs.Readings.{IsRead}
 use Rattle.command_words.specs.Commands.{Command}
-use Rattle.calypso_cli.specs.Endings.{Part, files, out, Kind, worked, turned_away, failed, wanted_memory, Ending, done, no_command, cannot_load, cannot_write, refused, fault, no_memory, output_failed, script_refused, events_refused, too_long, module_refused, kind_of, IsBeforeWork}
+use Rattle.calypso_cli.specs.Endings.{Part, files, out, Kind, worked, turned_away, failed, wanted_memory, Ending, done, no_command, cannot_load, cannot_write, refused, fault, no_memory, output_failed}
+use Rattle.calypso_cli.specs.Endings.{script_refused, events_refused, too_long, module_refused, kind_of, IsBeforeWork}
 use Rattle.calypso_cli.specs.Outcomes.{Sight, loads, Outcome, Work, finished, stopped, reaching, Loads, long, turned, loaded, Does}
 use Rattle.calypso_cli.specs.Commands.{IsLoaded, IsWritten, WritesOut, CanEnd, ComesTo, Writes, MayReport, Reports}
 use Rattle.calypso_cli.specs.Steps as step
 use Rattle.calypso_cli.specs.Steps.{Holds, StopsLoad, EndsWork, whole, out_failed}
-use Rattle.calypso_cli.specs.Promise.{Objects, faults_of, Worked, WasTurnedAway, as_it_comes, for_memory, at_a_file, at_out, Touches, HoldsWritten, HoldsFront, as_before, HoldsFronts, EndsByItself, CanWork, RunsAs, OnSight, Sees, Works}
+use Rattle.calypso_cli.specs.Promise.{Objects, faults_of, Worked, WasTurnedAway, as_it_comes, for_memory, at_a_file, at_out, Touches, HoldsWritten, HoldsFront, as_before, HoldsFronts, EndsByItself}
+use Rattle.calypso_cli.specs.Promise.{CanWork, RunsAs, OnSight, Sees, Works}
 use Rattle.run_report.proofs.Fronts.{whole_front}
 use Rattle.calypso_cli.proofs.Only.{ReadsOnce, only_loaded, only_turned, only_long, is_reached}
 
@@ -75,7 +77,8 @@ before_not_worked (too_long name) h w = cc
 before_not_worked module_refused h w = cc
 
 -- the command first loads a file of at most so many bytes, and then goes on with what it reads
-pub record LoadsFirst (command : Command) (file : List ℕ) (limit : ℕ) {X : Type 0} (Reads : List ℕ → X → Type 0) (May : Ending → Type 0) (TurnsAway : List ℕ → Ending → Type 0) (Next : Sight → X → Outcome → Type 0) : Type 0 where
+pub record LoadsFirst (command : Command) (file : List ℕ) (limit : ℕ) {X : Type 0} (Reads : List ℕ → X → Type 0) (May : Ending → Type 0) (TurnsAway : List ℕ → Ending → Type 0)
+    (Next : Sight → X → Outcome → Type 0) : Type 0 where
   pub once : ReadsOnce Reads TurnsAway
   pub comes : (sight : Sight) (outcome : Outcome) → ComesTo command sight outcome → Loads file limit Reads TurnsAway (Next sight) (sight.files file) outcome
   pub back : (sight : Sight) (outcome : Outcome) → Loads file limit Reads TurnsAway (Next sight) (sight.files file) outcome → ComesTo command sight outcome
@@ -233,15 +236,16 @@ module _ (command : Command) (file : List ℕ) (limit : ℕ) {X : Type 0} (Reads
 -- ---- work on what was loaded
 
 -- the command loads one file, does this work on what it reads, and writes no file and no report
-pub record LoadsOne (command : Command) (file : List ℕ) (limit : ℕ) {X : Type 0} (Reads : List ℕ → X → Type 0) (May : Ending → Type 0) (TurnsAway : List ℕ → Ending → Type 0) (work : X → Work) : Type 0 where
-  pub first : LoadsFirst command file limit Reads May TurnsAway (λ sight x. Does (work x))
-  pub unwritten : (name : List ℕ) → IsWritten command name → ⊥
-  pub writes : (sight : Sight) → Writes command sight [] []
-  pub reports : (sight : Sight) → Reports command sight [] []
-  pub may_report : MayReport command []
-  pub writes_out : WritesOut command
-  pub can_work : (x : X) → CanEnd command (work x).ending
-  pub works : (x : X) → Worked (work x).ending
+pub record LoadsOne (command : Command) (file : List ℕ) (limit : ℕ) {X : Type 0} (Reads : List ℕ → X → Type 0) (May : Ending → Type 0) (TurnsAway : List ℕ → Ending → Type 0) (work : X → Work) : Type 0
+  where
+    pub first : LoadsFirst command file limit Reads May TurnsAway (λ sight x. Does (work x))
+    pub unwritten : (name : List ℕ) → IsWritten command name → ⊥
+    pub writes : (sight : Sight) → Writes command sight [] []
+    pub reports : (sight : Sight) → Reports command sight [] []
+    pub may_report : MayReport command []
+    pub writes_out : WritesOut command
+    pub can_work : (x : X) → CanEnd command (work x).ending
+    pub works : (x : X) → Worked (work x).ending
 
 module _ (command : Command) (file : List ℕ) (limit : ℕ) {X : Type 0} (Reads : List ℕ → X → Type 0) (May : Ending → Type 0) (TurnsAway : List ℕ → Ending → Type 0) (work : X → Work)
     (one : LoadsOne command file limit Reads May TurnsAway work) (before after : Objects) (same : Told before.files after.files SameFiles) where

@@ -21,7 +21,8 @@ pub log_written : (text : List ℕ) (log : Option (List ℕ)) (a b c : Option Co
 log_written text log a b c h k = told_then a b c (EmptiesLog log) (Logs log text) (KeepsLog text log) h k (logs_all text log)
 
 -- a front of it
-logs_some : (IsTrace : Trace → Type 0) (trace : Trace) → IsTrace trace → (log : Option (List ℕ)) (m n k : Contents) → EmptiesLog log m n → LogsFront log (log_text trace) n k → KeepsLogFront IsTrace log m k
+logs_some : (IsTrace : Trace → Type 0) (trace : Trace) → IsTrace trace → (log : Option (List ℕ)) (m n k : Contents) → EmptiesLog log m n → LogsFront log (log_text trace) n k
+    → KeepsLogFront IsTrace log m k
 logs_some IsTrace trace traced None m n k h r = same_same m n k h r
 logs_some IsTrace trace traced (Some log) m n k h r = (
   subst (HoldsLogFront IsTrace (m log)) (sym (r.2.here ∙ ap (λ old. Some (unwrap_or old [] ++ r.0)) h.here)) (step.front trace r.0 traced r.1),
@@ -67,6 +68,7 @@ pub whole_behind : (text : List ℕ) (log : Option (List ℕ)) (a b c : Option C
 whole_behind text log a b c h k = told_then a b c SameFiles (KeepsLog text log) (KeepsLog text log) h k (all_behind text log)
 
 -- a log that may be written, by the bytes of its name
-pub may_log : (May : List ℕ → Type 0) (log : Option (Bor (List ℕ))) (named : Option (List ℕ)) → option_map (λ name. name.now) log ≡ named → ((name : List ℕ) → named ≡ Some name → May name) → IfSome log (λ name. May name.now)
+pub may_log : (May : List ℕ → Type 0) (log : Option (Bor (List ℕ))) (named : Option (List ℕ)) → option_map (λ name. name.now) log ≡ named → ((name : List ℕ) → named ≡ Some name → May name)
+    → IfSome log (λ name. May name.now)
 may_log May None named e may = tt
 may_log May (Some name) named e may = may name.now (sym e)

@@ -46,7 +46,8 @@ module _ (file : List ℕ) (limit : ℕ) {X : Type 0} (Reads : List ℕ → X �
       absurd (once.apart bytes y ending (subst (λ b. Reads b y) same r) is)
 
   -- where it is too long
-  pub only_long : {o : Option (List ℕ)} {outcome : Outcome} → Loads file limit Reads TurnsAway Next o outcome → (bytes : List ℕ) → o ≡ Some bytes → limit < length bytes → outcome ≡ stopped file (too_long file)
+  pub only_long : {o : Option (List ℕ)} {outcome : Outcome} → Loads file limit Reads TurnsAway Next o outcome → (bytes : List ℕ) → o ≡ Some bytes → limit < length bytes
+      → outcome ≡ stopped file (too_long file)
   only_long missing bytes e large = absurd (no_bytes bytes None refl e)
   only_long (long other also) bytes e large = refl
   only_long (turned other end few r) bytes e large = absurd (omega (arith, ap length (same_bytes other bytes (Some other) refl e), large, few))

@@ -7,7 +7,8 @@ use Rattle.cal_base.specs.Contents.{Contents, Told, SameFiles}
 use Rattle.csl_meaning.specs.Meaning.{meaning}
 use Rattle.bytecode.specs.declared.module.Module.{Module}
 use Rattle.command_words.specs.Commands.{Command, check, eval}
-use Rattle.calypso_cli.specs.Endings.{Part, files, out, Ending, done, no_command, cannot_load, cannot_write, refused, fault, no_memory, output_failed, script_refused, events_refused, too_long, module_refused, kind_of, status_of, err_text}
+use Rattle.calypso_cli.specs.Endings.{Part, files, out, Ending, done, no_command, cannot_load, cannot_write, refused, fault, no_memory, output_failed, script_refused, events_refused, too_long}
+use Rattle.calypso_cli.specs.Endings.{module_refused, kind_of, status_of, err_text}
 use Rattle.csl_tree.specs.declared.program.Program.{Program}
 use Rattle.csl_grammar.specs.Texts.{text_limit}
 use Rattle.csl_reader.proofs.OneWay.{read_one_way}
@@ -15,8 +16,10 @@ use Rattle.csl_reader.specs.Readings.{IsRead}
 use Rattle.csl_reader.specs.Readings as reading
 use Rattle.calypso_cli.specs.Steps.{Holds, ReadsAs, IsRefusal, Spells, IsModuleRefusal, StopsLoad, EndsWork}
 use Rattle.calypso_cli.specs.Outcomes.{Sight, Outcome, Work, Does}
-use Rattle.calypso_cli.specs.Commands.{IsLoaded, LoadsProgram, LoadsModule, CanEnd, RunsProgram, IsRefusedText, IsModule, IsNoModule, module_limit, WithProgram, WithModule, ComesTo, ended, usual_fuel, run_of, check_of}
-use Rattle.calypso_cli.specs.Promise.{Objects, Outside, faults_of, CountsStay, Worked, for_memory, Touches, HoldsFront, as_before, HoldsFronts, Sees, Gets, Works, DoesCommand, DoesNothing, KeepsPromise, MayUse, MayDo}
+use Rattle.calypso_cli.specs.Commands.{IsLoaded, LoadsProgram, LoadsModule, CanEnd, RunsProgram, IsRefusedText, IsModule, IsNoModule, module_limit, WithProgram, WithModule, ComesTo, ended, usual_fuel}
+use Rattle.calypso_cli.specs.Commands.{run_of, check_of}
+use Rattle.calypso_cli.specs.Promise.{Objects, Outside, faults_of, CountsStay, Worked, for_memory, Touches, HoldsFront, as_before, HoldsFronts, Sees, Gets, Works, DoesCommand, DoesNothing}
+use Rattle.calypso_cli.specs.Promise.{KeepsPromise, MayUse, MayDo}
 use Rattle.calypso_cli.proofs.Kept.{LoadsFirst, LoadsOne, does_stop, does_work, itself_not}
 use Rattle.calypso_cli.proofs.Readings.{programs_once, modules_once, one_module}
 
@@ -104,7 +107,8 @@ stops_on command file work one before after same kept stops =
 
 -- the work on the program ended the call
 pub works_on : (command : Command) (file : List ℕ) (work : Program → Work) → WorksOn command file work → (before after : Objects) → Told before.files after.files SameFiles → (p : Program)
-    → Holds before.files file (ReadsAs (reading.accepted p)) → {ending : Ending} → EndsWork (work p) before.out after.out before.out_faults after.out_faults ending → Works command before after ending []
+    → Holds before.files file (ReadsAs (reading.accepted p)) → {ending : Ending} → EndsWork (work p) before.out after.out before.out_faults after.out_faults ending
+    → Works command before after ending []
 works_on command file work one before after same p holds ends =
     does_work command file text_limit (λ bytes p. IsRead bytes (reading.accepted p)) IsRefusal IsRefusedText work one before after same p holds ends
 

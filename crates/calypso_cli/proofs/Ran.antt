@@ -15,7 +15,8 @@ use Rattle.calypso_cli.specs.Outcomes.{Sight, creates, Outcome, Work}
 use Rattle.calypso_cli.specs.Commands.{IsWritten, WritesOut, CanEnd, ComesTo, Writes, MayReport, Reports, ReportsRun}
 use Rattle.calypso_cli.specs.Steps as step
 use Rattle.calypso_cli.specs.Steps.{HoldsLogFront, KeepsLogFront, KeepsLog, EndsRun}
-use Rattle.calypso_cli.specs.Promise.{Objects, Worked, WasTurnedAway, as_it_comes, for_memory, at_a_file, at_out, Touches, HoldsWritten, HoldsFront, as_before, nothing, front_of, HoldsFronts, EndsByItself, CanWork, RunsAs, OnSight, Sees, Works}
+use Rattle.calypso_cli.specs.Promise.{Objects, Worked, WasTurnedAway, as_it_comes, for_memory, at_a_file, at_out, Touches, HoldsWritten, HoldsFront, as_before, nothing, front_of, HoldsFronts}
+use Rattle.calypso_cli.specs.Promise.{EndsByItself, CanWork, RunsAs, OnSight, Sees, Works}
 use Rattle.calypso_cli.proofs.Kept.{itself_not, itself_no_fault, worked_not_away, worked_not_failed, before_not_worked, files_not_out, out_not_files, apart, quiet_not_rose, caused}
 use Rattle.calypso_cli.proofs.Written.{told_as, rose_behind}
 use Rattle.calypso_cli.proofs.Logged.{front_behind, whole_behind}
@@ -93,12 +94,14 @@ module _ (command : Command) (flags : Flags) (rows : List Row) (IsTrace : Trace 
       subst (HoldsFront command sight name) (sym held) (front_of trace (log_text trace) (log_text trace) (log_text_written sight is trace traced name e) (take-length (log_text trace)))
 
   -- a front of the log
-  one_front : (sight : Sight) → before.files ≡ Some sight.files → (name : List ℕ) → flags.log ≡ Some name → {o : Option (List ℕ)} → HoldsLogFront IsTrace (sight.files name) o → HoldsFront command sight name o
+  one_front : (sight : Sight) → before.files ≡ Some sight.files → (name : List ℕ) → flags.log ≡ Some name → {o : Option (List ℕ)} → HoldsLogFront IsTrace (sight.files name) o
+      → HoldsFront command sight name o
   one_front sight is name e step.kept = as_before
   one_front sight is name e step.emptied = nothing
   one_front sight is name e (step.front trace text traced starts) = front_of trace (log_text trace) text (log_text_written sight is trace traced name e) starts
 
-  some_front : (sight : Sight) → before.files ≡ Some sight.files → (contents : Contents) (name : List ℕ) (log : Option (List ℕ)) → log ≡ flags.log → log ≡ Some name → KeepsLogFront IsTrace log sight.files contents
+  some_front : (sight : Sight) → before.files ≡ Some sight.files → (contents : Contents) (name : List ℕ) (log : Option (List ℕ)) → log ≡ flags.log → log ≡ Some name
+      → KeepsLogFront IsTrace log sight.files contents
       → HoldsFront command sight name (contents name)
   some_front sight is contents name None same e h = absurd (cc)
   some_front sight is contents name (Some log) same e h =
@@ -173,7 +176,8 @@ module _ (command : Command) (flags : Flags) (rows : List Row) (IsTrace : Trace 
     silent = λ no. refl;
     unwritten = λ h. absurd h;
     out_kept = λ h. absurd (h run.writes_out);
-    files = touched no_memory (λ away. cc) before.files after.files (told_as before.files after.files (KeepsLogFront IsTrace flags.log) (KeepsOthers flags.log) (others_of_front IsTrace flags.log) left);
+    files = touched no_memory (λ away. cc) before.files after.files (told_as before.files after.files (KeepsLogFront IsTrace flags.log) (KeepsOthers flags.log) (others_of_front IsTrace flags.log)
+        left);
     told = gave_up no_memory (λ itself. itself_not (kind_of no_memory) itself refl) (λ did. cc) left
         (λ sight is outcome goes. record {
           ends = for_memory;
@@ -189,7 +193,8 @@ module _ (command : Command) (flags : Flags) (rows : List Row) (IsTrace : Trace 
     silent = λ no. refl;
     unwritten = λ h. absurd h;
     out_kept = λ h. absurd (h run.writes_out);
-    files = touched output_failed (λ away. cc) before.files after.files (told_as before.files after.files (KeepsLogFront IsTrace flags.log) (KeepsOthers flags.log) (others_of_front IsTrace flags.log) left);
+    files = touched output_failed (λ away. cc) before.files after.files (told_as before.files after.files (KeepsLogFront IsTrace flags.log) (KeepsOthers flags.log) (others_of_front IsTrace flags.log)
+        left);
     told = gave_up output_failed (λ itself. itself_no_fault (failed out) out itself refl) (λ did. cc) left
         (λ sight is outcome goes. let e : outcome ≡ run.there = run.only sight is outcome goes in
         record {
@@ -206,7 +211,8 @@ module _ (command : Command) (flags : Flags) (rows : List Row) (IsTrace : Trace 
     silent = λ no. refl;
     unwritten = λ h. absurd h;
     out_kept = λ h. absurd (h run.writes_out);
-    files = touched (cannot_write log) (λ away. cc) before.files after.files (told_as before.files after.files (KeepsLogFront IsTrace flags.log) (KeepsOthers flags.log) (others_of_front IsTrace flags.log) left);
+    files = touched (cannot_write log) (λ away. cc) before.files after.files (told_as before.files after.files (KeepsLogFront IsTrace flags.log) (KeepsOthers flags.log)
+        (others_of_front IsTrace flags.log) left);
     told = gave_up (cannot_write log) (λ itself. itself_no_fault (failed files) files itself refl) (λ did. cc) left
         (λ sight is outcome goes. let e : outcome ≡ run.there = run.only sight is outcome goes in
         record {

@@ -16,7 +16,8 @@ use Rattle.calypso_engine.specs.Traces.{IsTraceOf}
 use Rattle.command_words.specs.Commands.{Flags, Command, run, exec}
 use Rattle.calypso_cli.specs.Endings.{Ending}
 use Rattle.calypso_cli.specs.Outcomes.{Sight, Reach, loads, creates, Outcome, Work, finished, reaching, Loads, loaded, Creates, Does}
-use Rattle.calypso_cli.specs.Commands.{IsWritten, WritesOut, CanEnd, IsRefusedText, IsModule, IsNoModule, module_limit, IsScript, IsNoScript, script_limit, WithScript, HoldsProgram, HoldsModule, HoldsScript, ComesTo, run_of, HasTrace, WritesLog, Writes, MayReportOf, MayReport, ReportsTallies, ReportsOf, ReportsRun, IsReport, Reports}
+use Rattle.calypso_cli.specs.Commands.{IsWritten, WritesOut, CanEnd, IsRefusedText, IsModule, IsNoModule, module_limit, IsScript, IsNoScript, script_limit, WithScript, HoldsProgram, HoldsModule}
+use Rattle.calypso_cli.specs.Commands.{HoldsScript, ComesTo, run_of, HasTrace, WritesLog, Writes, MayReportOf, MayReport, ReportsTallies, ReportsOf, ReportsRun, IsReport, Reports}
 use Rattle.calypso_cli.specs.Steps.{Holds, HoldsRows, ReadsAs, IsRefusal, Spells, IsModuleRefusal}
 use Rattle.calypso_cli.specs.Promise.{Worked}
 use Rattle.calypso_cli.proofs.Only.{only_loaded}
@@ -133,7 +134,8 @@ module _ (flags : Flags) (rows : List Row) {X : Type 0} (work : X → Work) wher
         first.back sight (reaching (loads file) (behind x))
         (subst (λ o. Loads file limit Reads TurnsAway (Goes flags work sight) o (reaching (loads file) (behind x))) (sym h.1)
         (loaded h.0 x (behind x) h.2.0 h.2.1
-        (comes_scripted told rows sight is flags.script (Creates flags.log (Does (work x))) (logged flags.log (finished (work x))) scripts (creates_logged flags.log (Does (work x)) (finished (work x)) refl))))
+        (comes_scripted told rows sight is flags.script (Creates flags.log (Does (work x))) (logged flags.log (finished (work x))) scripts
+        (creates_logged flags.log (Does (work x)) (finished (work x)) refl))))
 
     only_there : (sight : Sight) → told ≡ Some sight.files → (outcome : Outcome) → ComesTo command sight outcome → outcome ≡ reaching (loads file) (behind x)
     only_there sight is outcome goes =
@@ -177,7 +179,8 @@ runs_program flags p = run_of flags.steps (meaning p flags.fuel)
 
 -- `run` first loads a program
 pub first_run : (file : List ℕ) (flags : Flags)
-    → LoadsFirst (run file flags) file text_limit (λ bytes p. IsRead bytes (reading.accepted p)) IsRefusal IsRefusedText (λ sight p. WithScript sight flags.script (Creates flags.log (Does (runs_program flags p))))
+    → LoadsFirst (run file flags) file text_limit (λ bytes p. IsRead bytes (reading.accepted p)) IsRefusal IsRefusedText
+    (λ sight p. WithScript sight flags.script (Creates flags.log (Does (runs_program flags p))))
 first_run file flags =
     loads_program (run file flags) file (λ sight p. WithScript sight flags.script (Creates flags.log (Does (runs_program flags p)))) (λ sight outcome h. h) (λ sight outcome h. h) (inl refl) tt
 
@@ -188,7 +191,8 @@ run_there file flags rows told p holds scripts =
     (IsTraceOf (steps_of (main p flags.fuel)))
     (λ name written. written) (λ name named. named)
     (λ sight is trace traced. writes_log flags.log (HasTrace (run file flags) sight) trace (has_trace sight is trace traced))
-    (λ sight is trace report traced h. is_report flags sight (HasTrace (run file flags) sight) rows trace report (holds_script told rows sight is flags.script scripts) (has_trace sight is trace traced) h)
+    (λ sight is trace report traced h. is_report flags sight (HasTrace (run file flags) sight) rows trace report (holds_script told rows sight is flags.script scripts)
+    (has_trace sight is trace traced) h)
     (λ trace report h. may_report_of flags.report flags.workers rows trace report h)
     tt (run_can_end (run file flags) tt (meaning p flags.fuel).ending) (run_worked (meaning p flags.fuel).ending) where
       has_trace : (sight : Sight) → told ≡ Some sight.files → (trace : Trace) → IsTraceOf (steps_of (main p flags.fuel)) trace → HasTrace (run file flags) sight trace
@@ -215,7 +219,8 @@ exec_there file flags rows told m holds scripts =
     (IsTraceOf (steps_of (machine_main m flags.fuel)))
     (λ name written. written) (λ name named. named)
     (λ sight is trace traced. writes_log flags.log (HasTrace (exec file flags) sight) trace (has_trace sight is trace traced))
-    (λ sight is trace report traced h. is_report flags sight (HasTrace (exec file flags) sight) rows trace report (holds_script told rows sight is flags.script scripts) (has_trace sight is trace traced) h)
+    (λ sight is trace report traced h. is_report flags sight (HasTrace (exec file flags) sight) rows trace report (holds_script told rows sight is flags.script scripts)
+    (has_trace sight is trace traced) h)
     (λ trace report h. may_report_of flags.report flags.workers rows trace report h)
     tt (run_can_end (exec file flags) tt (machine_meaning m flags.fuel).ending) (run_worked (machine_meaning m flags.fuel).ending) where
       has_trace : (sight : Sight) → told ≡ Some sight.files → (trace : Trace) → IsTraceOf (steps_of (machine_main m flags.fuel)) trace → HasTrace (exec file flags) sight trace

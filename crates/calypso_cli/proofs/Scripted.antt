@@ -28,7 +28,8 @@ pub rows_behind : (a b : Option Contents) (script : Option (List ℕ)) (rows : L
 rows_behind a b None rows same h = h
 rows_behind a b (Some script) rows same h = holds_behind a b script (λ bytes. (length bytes ≤ script_limit) × IsScript bytes rows) same h
 
-pub stops_behind : (a b : Option Contents) (file : List ℕ) (limit : ℕ) (May : Ending → Type 0) (TurnsAway : List ℕ → Ending → Type 0) (before mid after : ℕ) → Told a b SameFiles → before ≤ mid → {ending : Ending}
+pub stops_behind : (a b : Option Contents) (file : List ℕ) (limit : ℕ) (May : Ending → Type 0) (TurnsAway : List ℕ → Ending → Type 0) (before mid after : ℕ) → Told a b SameFiles → before ≤ mid
+    → {ending : Ending}
     → StopsLoad b file limit May TurnsAway mid after ending → StopsLoad a file limit May TurnsAway before after ending
 stops_behind a b file limit May TurnsAway before mid after same later step.no_room = step.no_room
 stops_behind a b file limit May TurnsAway before mid after same later (step.not_usable rose) = step.not_usable (rose_behind before mid after later rose)
@@ -122,6 +123,7 @@ module _ (flags : Flags) {X : Type 0} (work : X → Work) (command : Command) (f
       → (script : Option (List ℕ)) → flags.script ≡ script → {ending : Ending} → StopsScript mid script mid_faults after.file_faults ending → Works command before after ending []
   script_ends mid mid_faults so later loads_it None e stops = absurd stops
   script_ends mid mid_faults so later loads_it (Some script) e stops =
-      second_stops command file limit Reads May TurnsAway (Goes flags work) first before after same kept x holds script script_limit IsScript IsScriptRefusal IsNoScript (Creates flags.log (Does (work x)))
+      second_stops command file limit Reads May TurnsAway (Goes flags work) first before after same kept x holds script script_limit IsScript IsScriptRefusal IsNoScript
+      (Creates flags.log (Does (work x)))
       (loads_script script e (loads_it script e))
       (stops_behind before.files mid script script_limit IsScriptRefusal IsNoScript before.file_faults mid_faults after.file_faults so later stops)

@@ -60,7 +60,8 @@ abbrev pub Plays : (events : List ℕ) (log : Option (List ℕ)) → Sight → P
 Plays events log sight p outcome = WithEvents sight events (Creates log (Does (simulates p))) outcome
 
 -- `sim` first loads a program
-pub first_sim : (file events : List ℕ) (log : Option (List ℕ)) → LoadsFirst (sim file events log) file text_limit (λ bytes p. IsRead bytes (reading.accepted p)) IsRefusal IsRefusedText (Plays events log)
+pub first_sim : (file events : List ℕ) (log : Option (List ℕ)) → LoadsFirst (sim file events log) file text_limit (λ bytes p. IsRead bytes (reading.accepted p)) IsRefusal IsRefusedText
+    (Plays events log)
 first_sim file events log = loads_program (sim file events log) file (Plays events log) (λ sight outcome h. h) (λ sight outcome h. h) (inl refl) tt
 
 -- and then a list of events
@@ -114,7 +115,8 @@ module _ (file events : List ℕ) (log : Option (List ℕ)) (told : Option Conte
     there = reaching (loads file) behind;
     ends = logged_ending log (finished (simulates p));
     text = logged_text log (finished (simulates p));
-    sees = λ sight sees. told_by (sim file events log) file text_limit (λ bytes q. IsRead bytes (reading.accepted q)) IsRefusal IsRefusedText (Plays events log) (first_sim file events log) told sight sees;
+    sees = λ sight sees. told_by (sim file events log) file text_limit (λ bytes q. IsRead bytes (reading.accepted q)) IsRefusal IsRefusedText (Plays events log) (first_sim file events log) told sight
+        sees;
     comes = comes_there;
     only = only_there;
     reached = λ name named. later_in (loads file) (creates name) behind.reached
@@ -138,16 +140,19 @@ sim_stops file events log before after same kept stops =
     does_stop (sim file events log) file text_limit (λ bytes p. IsRead bytes (reading.accepted p)) IsRefusal IsRefusedText (Plays events log) (first_sim file events log) before after same kept stops
 
 -- the load of the events ended it
-pub sim_refused : (file events : List ℕ) (log : Option (List ℕ)) (before after : Objects) (mid : Option Contents) (mid_faults : ℕ) (p : Program) → Holds before.files file (ReadsAs (reading.accepted p))
+pub sim_refused : (file events : List ℕ) (log : Option (List ℕ)) (before after : Objects) (mid : Option Contents) (mid_faults : ℕ) (p : Program)
+    → Holds before.files file (ReadsAs (reading.accepted p))
     → Told before.files mid SameFiles → before.file_faults ≤ mid_faults → Told before.files after.files SameFiles → before.out ≡ after.out → {ending : Ending}
     → StopsLoad mid events events_limit IsEventsRefusal IsNoEvents mid_faults after.file_faults ending → Works (sim file events log) before after ending []
 sim_refused file events log before after mid mid_faults p holds so later same kept stops =
-    second_stops (sim file events log) file text_limit (λ bytes q. IsRead bytes (reading.accepted q)) IsRefusal IsRefusedText (Plays events log) (first_sim file events log) before after same kept p holds
+    second_stops (sim file events log) file text_limit (λ bytes q. IsRead bytes (reading.accepted q)) IsRefusal IsRefusedText (Plays events log) (first_sim file events log) before after same kept p
+    holds
     events events_limit IsEvents IsEventsRefusal IsNoEvents (Creates log (Does (simulates p))) (second_sim file events log p)
     (stops_behind before.files mid events events_limit IsEventsRefusal IsNoEvents before.file_faults mid_faults after.file_faults so later stops)
 
 -- the run did
-pub sim_works : (file events : List ℕ) (log : Option (List ℕ)) (held_files : Option Contents) (held_faults : ℕ) (program_files : Option Contents) (mid after : Objects) (p : Program) (list : List Event)
+pub sim_works : (file events : List ℕ) (log : Option (List ℕ)) (held_files : Option Contents) (held_faults : ℕ) (program_files : Option Contents) (mid after : Objects) (p : Program)
+    (list : List Event)
     → Holds held_files file (ReadsAs (reading.accepted p)) → Told held_files program_files SameFiles → Holds program_files events (Lists list) → Told held_files mid.files SameFiles
     → held_faults ≤ mid.file_faults → {ending : Ending} → EndsRun (IsSimulated p list) (simulates p) (simulation log) [] mid after ending []
     → Works (sim file events log) (record { files = held_files; out = mid.out; file_faults = held_faults; out_faults = mid.out_faults }) after ending []

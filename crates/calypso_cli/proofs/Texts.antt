@@ -18,7 +18,8 @@ use Rattle.calypso_cli.proofs.Promises.{same_files, run_can_end, run_worked, wor
 use Rattle.calypso_cli.proofs.Alone.{ComesAlone, selfrun_nothing, turned_alone, works_alone}
 
 -- a text that spells a program is worked on, and nothing else
-pub only_spelled : (bytes : List ℕ) (work : Program → Work) (p : Program) → IsRead bytes (reading.accepted p) → {outcome : Outcome} → FromText bytes (λ q. Does (work q)) outcome → outcome ≡ finished (work p)
+pub only_spelled : (bytes : List ℕ) (work : Program → Work) (p : Program) → IsRead bytes (reading.accepted p) → {outcome : Outcome} → FromText bytes (λ q. Does (work q)) outcome
+    → outcome ≡ finished (work p)
 only_spelled bytes work p is (spelled q outcome r h) = h ∙ ap (λ x. finished (work x)) ((programs_once read_one_way).one bytes q p r is)
 only_spelled bytes work p is (turned ending r) = absurd ((programs_once read_one_way).apart bytes p ending is r)
 
@@ -52,10 +53,12 @@ self_refused number size ending is = record {
 pub works_selfrun : (number size : ℕ) (p : Program) → IsRead (generated number size) (reading.accepted p) → (before after : Objects) → Told before.files after.files SameFiles
     → {ending : Ending} → EndsWork (run_of false (meaning p usual_fuel)) before.out after.out before.out_faults after.out_faults ending → Works (selfrun number size) before after ending []
 works_selfrun number size p is before after same ends =
-    works_alone (selfrun number size) (selfrun_nothing number size) before after same (run_of false (meaning p usual_fuel)) (self_spelled number size p is) (run_worked (meaning p usual_fuel).ending) ends
+    works_alone (selfrun number size) (selfrun_nothing number size) before after same (run_of false (meaning p usual_fuel)) (self_spelled number size p is) (run_worked (meaning p usual_fuel).ending)
+    ends
 
 -- it was not
-pub stops_selfrun : (number size : ℕ) (objects : Objects) (ending : Ending) → (ending ≡ no_memory) ⊎ IsRefusedText (generated number size) ending → Works (selfrun number size) objects objects ending []
+pub stops_selfrun : (number size : ℕ) (objects : Objects) (ending : Ending) → (ending ≡ no_memory) ⊎ IsRefusedText (generated number size) ending
+    → Works (selfrun number size) objects objects ending []
 stops_selfrun number size objects ending (inl none) = subst (λ e. Works (selfrun number size) objects objects e []) (sym none) (works_nothing (selfrun number size) objects)
 stops_selfrun number size objects ending (inr is) =
     turned_alone (selfrun number size) (selfrun_nothing number size) objects objects (same_files objects.files) refl (record { ending = ending; text = [] }) (subst WasTurnedAway (sym is.3) refl)

@@ -27,7 +27,8 @@ use Rattle.run_report.specs.Reports.{report_text}
 use Rattle.calypso_engine.specs.Traces.{trace_of, IsTraceOf, Tallies, in_order, AreTalliesOf, FollowScript, Agree}
 use Rattle.program_gen.specs.Generated.{generated}
 use Rattle.command_words.specs.Commands.{Flags, Command, check, eval, run, sim, build, exec, gen, selfrun}
-use Rattle.calypso_cli.specs.Endings.{Ending, done, no_command, cannot_load, cannot_write, refused, fault, no_memory, output_failed, script_refused, events_refused, too_long, module_refused}
+use Rattle.calypso_cli.specs.Endings.{Ending, done, no_command, cannot_load, cannot_write, refused, fault, no_memory, output_failed}
+use Rattle.calypso_cli.specs.Endings.{script_refused, events_refused, too_long, module_refused}
 use Rattle.calypso_cli.specs.Outcomes.{Sight, Outcome, Work, finished, Loads, Creates, Does}
 
 -- ---- threads
@@ -158,7 +159,8 @@ IsRefusedText bytes ending = (at : ℕ) × (why : Refusal) × IsRead bytes (read
 
 -- what a command comes to that loads a program and goes on with it
 abbrev pub WithProgram : Sight → List ℕ → (Program → Outcome → Type 0) → Outcome → Type 0
-WithProgram sight file Next outcome = Loads file text_limit (λ bytes p. IsRead bytes (reading.accepted p)) IsRefusedText Next (sight.files file) outcome
+WithProgram sight file Next outcome = Loads file text_limit (λ bytes p. IsRead bytes (reading.accepted p)) IsRefusedText Next
+    (sight.files file) outcome
 
 -- the longest module, in bytes
 abbrev pub module_limit : ℕ
@@ -211,7 +213,8 @@ WithEvents sight file Next outcome = Loads file events_limit IsEvents IsNoEvents
 
 -- the file holds the text of this accepted program
 abbrev pub HoldsProgram : Sight → List ℕ → Program → Type 0
-HoldsProgram sight file p = (bytes : List ℕ) × (sight.files file ≡ Some bytes) × (length bytes ≤ text_limit) × IsRead bytes (reading.accepted p)
+HoldsProgram sight file p = (bytes : List ℕ) × (sight.files file ≡ Some bytes) × (length bytes ≤ text_limit)
+    × IsRead bytes (reading.accepted p)
 
 -- the file holds this verified module
 abbrev pub HoldsModule : Sight → List ℕ → Module → Type 0
@@ -220,7 +223,8 @@ HoldsModule sight file m = (bytes : List ℕ) × (sight.files file ≡ Some byte
 -- the rows of the script, where one is named; with no script there is none
 abbrev pub HoldsScript : Sight → Option (List ℕ) → List Row → Type 0
 HoldsScript sight None rows = rows ≡ []
-HoldsScript sight (Some file) rows = (bytes : List ℕ) × (sight.files file ≡ Some bytes) × (length bytes ≤ script_limit) × IsScript bytes rows
+HoldsScript sight (Some file) rows = (bytes : List ℕ) × (sight.files file ≡ Some bytes) × (length bytes ≤ script_limit)
+    × IsScript bytes rows
 
 -- the file lists these events
 abbrev pub HoldsEvents : Sight → List ℕ → List Event → Type 0
@@ -264,12 +268,14 @@ abbrev pub ComesTo : Command → Sight → Outcome → Type 0
 ComesTo (check file) sight outcome = WithProgram sight file (λ p. Does (check_of p)) outcome
 ComesTo (eval file) sight outcome = WithProgram sight file (λ p. Does (run_of false (meaning p usual_fuel))) outcome
 ComesTo (run file flags) sight outcome =
-    WithProgram sight file (λ p. WithScript sight flags.script (Creates flags.log (Does (run_of flags.steps (meaning p flags.fuel))))) outcome
+    WithProgram sight file (λ p. WithScript sight flags.script (Creates flags.log (Does (run_of flags.steps (meaning p flags.fuel)))))
+    outcome
 ComesTo (sim file events log) sight outcome =
     WithProgram sight file (λ p. WithEvents sight events (Creates log (Does (run_of false (meaning p usual_fuel))))) outcome
 ComesTo (build file into) sight outcome = WithProgram sight file (λ p. Creates (Some into) (Does build_of)) outcome
 ComesTo (exec file flags) sight outcome =
-    WithModule sight file (λ m. WithScript sight flags.script (Creates flags.log (Does (run_of flags.steps (machine_meaning m flags.fuel))))) outcome
+    WithModule sight file (λ m. WithScript sight flags.script (Creates flags.log
+    (Does (run_of flags.steps (machine_meaning m flags.fuel))))) outcome
 ComesTo (gen number size) sight outcome = Does (gen_of number size) outcome
 ComesTo (selfrun number size) sight outcome = FromText (generated number size) (λ p. Does (run_of false (meaning p usual_fuel))) outcome
 
@@ -285,11 +291,13 @@ abbrev pub HasTrace : Command → Sight → Trace → Type 0
 HasTrace (check file) sight trace = trace ≡ []
 HasTrace (eval file) sight trace = trace ≡ []
 HasTrace (run file flags) sight trace = (p : Program) × HoldsProgram sight file p × IsTraceOf (steps_of (main p flags.fuel)) trace
-HasTrace (sim file events log) sight trace = (p : Program) × (list : List Event) × HoldsProgram sight file p × HoldsEvents sight events list × IsSimulated p list trace
+HasTrace (sim file events log) sight trace = (p : Program) × (list : List Event) × HoldsProgram sight file p × HoldsEvents sight events list
+    × IsSimulated p list trace
 HasTrace (build file into) sight trace = trace ≡ []
 HasTrace (exec file flags) sight trace = (m : Module) × HoldsModule sight file m × IsTraceOf (steps_of (machine_main m flags.fuel)) trace
 HasTrace (gen number size) sight trace = trace ≡ []
-HasTrace (selfrun number size) sight trace = (p : Program) × IsRead (generated number size) (reading.accepted p) × IsTraceOf (steps_of (main p usual_fuel)) trace
+HasTrace (selfrun number size) sight trace = (p : Program) × IsRead (generated number size) (reading.accepted p)
+    × IsTraceOf (steps_of (main p usual_fuel)) trace
 
 -- the text of a log, where one is named: that of a trace of the run
 abbrev pub WritesLog : Option (List ℕ) → (Trace → Type 0) → Trace → List ℕ → Type 0
@@ -361,9 +369,11 @@ pub record IsReport (flags : Flags) (sight : Sight) (IsTrace : Trace → Type 0)
 abbrev pub Reports : Command → Sight → Trace → List ℕ → Type 0
 Reports (check file) sight trace report = report ≡ []
 Reports (eval file) sight trace report = report ≡ []
-Reports (run file flags) sight trace report = ReportsOf flags.report report (IsReport flags sight (HasTrace (run file flags) sight) trace report)
+Reports (run file flags) sight trace report = ReportsOf flags.report report
+    (IsReport flags sight (HasTrace (run file flags) sight) trace report)
 Reports (sim file events log) sight trace report = report ≡ []
 Reports (build file into) sight trace report = report ≡ []
-Reports (exec file flags) sight trace report = ReportsOf flags.report report (IsReport flags sight (HasTrace (exec file flags) sight) trace report)
+Reports (exec file flags) sight trace report = ReportsOf flags.report report
+    (IsReport flags sight (HasTrace (exec file flags) sight) trace report)
 Reports (gen number size) sight trace report = report ≡ []
 Reports (selfrun number size) sight trace report = report ≡ []

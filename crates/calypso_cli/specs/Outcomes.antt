@@ -42,15 +42,18 @@ reaching reach outcome = record outcome { reached = reach ∷ outcome.reached }
 
 -- What a command comes to that loads a file of at most so many bytes, by what the file holds: the bytes are read as something,
 -- with which it goes on, or they are turned away with this ending.
-pub data Loads (file : List ℕ) (limit : ℕ) {X : Type 0} (Reads : List ℕ → X → Type 0) (TurnsAway : List ℕ → Ending → Type 0) (Next : X → Outcome → Type 0) : Option (List ℕ) → Outcome → Type 0 where
+pub data Loads (file : List ℕ) (limit : ℕ) {X : Type 0} (Reads : List ℕ → X → Type 0) (TurnsAway : List ℕ → Ending → Type 0)
+    (Next : X → Outcome → Type 0) : Option (List ℕ) → Outcome → Type 0 where
   -- there is no such file
   missing : Loads file limit Reads TurnsAway Next None (stopped file (cannot_load file))
   -- it is longer than its limit
   long : (bytes : List ℕ) → limit < length bytes → Loads file limit Reads TurnsAway Next (Some bytes) (stopped file (too_long file))
   -- its bytes are turned away
-  turned : (bytes : List ℕ) (ending : Ending) → length bytes ≤ limit → TurnsAway bytes ending → Loads file limit Reads TurnsAway Next (Some bytes) (stopped file ending)
+  turned : (bytes : List ℕ) (ending : Ending) → length bytes ≤ limit → TurnsAway bytes ending
+      → Loads file limit Reads TurnsAway Next (Some bytes) (stopped file ending)
   -- they are read, and the command goes on
-  loaded : (bytes : List ℕ) (x : X) (outcome : Outcome) → length bytes ≤ limit → Reads bytes x → Next x outcome → Loads file limit Reads TurnsAway Next (Some bytes) (reaching (loads file) outcome)
+  loaded : (bytes : List ℕ) (x : X) (outcome : Outcome) → length bytes ≤ limit → Reads bytes x → Next x outcome
+      → Loads file limit Reads TurnsAway Next (Some bytes) (reaching (loads file) outcome)
 
 -- what a command comes to that creates a file, where one is named, and goes on
 abbrev pub Creates : Option (List ℕ) → (Outcome → Type 0) → Outcome → Type 0

@@ -7,7 +7,8 @@ use Rattle.cal_base.specs.Causes.{Rose, IsQuiet}
 use Rattle.cal_base.specs.Contents.{Contents, Told, SameFiles, AppendsPrefix}
 use Rattle.run_report.specs.Logs.{Trace}
 use Rattle.command_words.specs.Commands.{Command}
-use Rattle.calypso_cli.specs.Endings.{Part, files, out, worked, turned_away, failed, Ending, no_command, no_memory, output_failed, kind_of, status_of, err_text, IsBeforeWork}
+use Rattle.calypso_cli.specs.Endings.{Part, files, out, worked, turned_away, failed, Ending, no_command, no_memory, output_failed, kind_of}
+use Rattle.calypso_cli.specs.Endings.{status_of, err_text, IsBeforeWork}
 use Rattle.calypso_cli.specs.Outcomes.{Sight, Reach, cannot, Outcome}
 use Rattle.calypso_cli.specs.Commands.{IsLoaded, IsWritten, WritesOut, CanEnd, ComesTo, Writes, MayReport, Reports}
 
@@ -76,7 +77,8 @@ HoldsWritten command (Some contents) text = (name : List ℕ) → IsWritten comm
 pub data HoldsFront (command : Command) (sight : Sight) (name : List ℕ) : Option (List ℕ) → Type 0 where
   as_before : HoldsFront command sight name (sight.files name)
   nothing : HoldsFront command sight name (Some [])
-  front_of : (trace : Trace) (text front : List ℕ) → Writes command sight trace text → StartsWith text front → HoldsFront command sight name (Some front)
+  front_of : (trace : Trace) (text front : List ℕ) → Writes command sight trace text → StartsWith text front
+      → HoldsFront command sight name (Some front)
 
 -- so does each file that the command writes
 abbrev pub HoldsFronts : Command → Sight → Option Contents → Type 0

@@ -3,7 +3,8 @@ use Rattle.std.specs.Prelude.{ℕ, List, [], Option, None, Some}
 use Rattle.cal_base.specs.declared.step.WorkerTally.{WorkerTally}
 use Rattle.run_report.specs.Reports.{report_text}
 use Rattle.calypso_cli.specs.declared.ending.Ending.{Ending}
-use Rattle.calypso_cli.specs.declared.ending.Ending.TheVariants.{Done, NoCommand, CannotLoad, CannotWrite, Refused, Fault, NoMemory, OutputFailed, ScriptRefused, EventsRefused, TooLong, ModuleRefused}
+use Rattle.calypso_cli.specs.declared.ending.Ending.TheVariants.{Done, NoCommand, CannotLoad, CannotWrite, Refused, Fault, NoMemory}
+use Rattle.calypso_cli.specs.declared.ending.Ending.TheVariants.{OutputFailed, ScriptRefused, EventsRefused, TooLong, ModuleRefused}
 use Rattle.calypso_cli.specs.Endings as table
 
 -- the report: the lines of the tallies, where there are some

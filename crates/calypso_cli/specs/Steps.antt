@@ -17,9 +17,11 @@ use Rattle.run_report.specs.Logs.{Trace, log_text}
 use Rattle.calypso_engine.specs.declared.error.RunError.{RunError}
 use Rattle.calypso_engine.specs.declared.error.RunError.TheVariants.{OutFailed, FileFailed, NoMemory}
 use Rattle.command_words.specs.Commands.{Flags}
-use Rattle.calypso_cli.specs.Endings.{Ending, done, cannot_load, cannot_write, refused, no_memory, output_failed, script_refused, events_refused, too_long, module_refused}
+use Rattle.calypso_cli.specs.Endings.{Ending, done, cannot_load, cannot_write, refused, no_memory, output_failed, script_refused}
+use Rattle.calypso_cli.specs.Endings.{events_refused, too_long, module_refused}
 use Rattle.calypso_cli.specs.Outcomes.{Work}
-use Rattle.calypso_cli.specs.Commands.{IsModule, module_limit, IsScript, IsNoScript, script_limit, IsEvents, events_limit, usual_fuel, IsBuiltOf, ReportsRun}
+use Rattle.calypso_cli.specs.Commands.{IsModule, module_limit, IsScript, IsNoScript, script_limit, IsEvents, events_limit, usual_fuel}
+use Rattle.calypso_cli.specs.Commands.{IsBuiltOf, ReportsRun}
 use Rattle.calypso_cli.specs.Promise.{Objects}
 
 -- where the files tell it, the file holds bytes of which this is true
@@ -68,11 +70,13 @@ TurnsNoneAway bytes ending = ⊥
 
 -- why the first load of a command ends the call: by want of memory or a fault, or because the file is too long or its bytes are turned away,
 -- with an ending that they may have
-pub data StopsLoad (told : Option Contents) (file : List ℕ) (limit : ℕ) (May : Ending → Type 0) (TurnsAway : List ℕ → Ending → Type 0) (before after : ℕ) : Ending → Type 0 where
+pub data StopsLoad (told : Option Contents) (file : List ℕ) (limit : ℕ) (May : Ending → Type 0) (TurnsAway : List ℕ → Ending → Type 0)
+    (before after : ℕ) : Ending → Type 0 where
   no_room : StopsLoad told file limit May TurnsAway before after no_memory
   not_usable : Rose before after → StopsLoad told file limit May TurnsAway before after (cannot_load file)
   long : Holds told file (λ bytes. limit < length bytes) → StopsLoad told file limit May TurnsAway before after (too_long file)
-  turned : (ending : Ending) → May ending → Holds told file (λ bytes. (length bytes ≤ limit) × TurnsAway bytes ending) → StopsLoad told file limit May TurnsAway before after ending
+  turned : (ending : Ending) → May ending → Holds told file (λ bytes. (length bytes ≤ limit) × TurnsAway bytes ending)
+      → StopsLoad told file limit May TurnsAway before after ending
 
 -- why the load of the script ends the call, where one is named
 abbrev pub StopsScript : Option Contents → Option (List ℕ) → (before after : ℕ) → Ending → Type 0
@@ -103,7 +107,8 @@ pub data EndsFile (file text : List ℕ) (old new : Option Contents) (before aft
 -- how the build of a program's module ends the call
 pub data EndsBuild (p : Program) (into : List ℕ) (old new : Option Contents) (before after : ℕ) : Ending → Type 0 where
   no_room : Told old new SameFiles → EndsBuild p into old new before after no_memory
-  wrote : (text : List ℕ) (ending : Ending) → IsBuiltOf p text → EndsFile into text old new before after ending → EndsBuild p into old new before after ending
+  wrote : (text : List ℕ) (ending : Ending) → IsBuiltOf p text → EndsFile into text old new before after ending
+      → EndsBuild p into old new before after ending
 
 -- ---- runs
 
@@ -141,11 +146,15 @@ KeepsLog text None old new = SameFiles old new
 KeepsLog text (Some log) old new = HoldsAll log text old new
 
 -- how the run of what was loaded, with such a trace and this work, ends the call, and what is reported
-pub data EndsRun (IsTrace : Trace → Type 0) (work : Work) (flags : Flags) (rows : List Row) (old new : Objects) : Ending → List ℕ → Type 0 where
-  ran : (trace : Trace) (report : List ℕ) → IsTrace trace → Appends old.out new.out work.text → Told old.files new.files (KeepsLog (log_text trace) flags.log)
+pub data EndsRun (IsTrace : Trace → Type 0) (work : Work) (flags : Flags) (rows : List Row) (old new : Objects) : Ending → List ℕ
+    → Type 0 where
+  ran : (trace : Trace) (report : List ℕ) → IsTrace trace → Appends old.out new.out work.text
+      → Told old.files new.files (KeepsLog (log_text trace) flags.log)
       → ReportsRun flags rows trace report → EndsRun IsTrace work flags rows old new work.ending report
-  no_room : AppendsPrefix old.out new.out work.text → Told old.files new.files (KeepsLogFront IsTrace flags.log) → EndsRun IsTrace work flags rows old new no_memory []
-  out_failed : Rose old.out_faults new.out_faults → AppendsPrefix old.out new.out work.text → Told old.files new.files (KeepsLogFront IsTrace flags.log)
+  no_room : AppendsPrefix old.out new.out work.text → Told old.files new.files (KeepsLogFront IsTrace flags.log)
+      → EndsRun IsTrace work flags rows old new no_memory []
+  out_failed : Rose old.out_faults new.out_faults → AppendsPrefix old.out new.out work.text
+      → Told old.files new.files (KeepsLogFront IsTrace flags.log)
       → EndsRun IsTrace work flags rows old new output_failed []
   log_failed : (log : List ℕ) → flags.log ≡ Some log → Rose old.file_faults new.file_faults → AppendsPrefix old.out new.out work.text
       → Told old.files new.files (KeepsLogFront IsTrace flags.log) → EndsRun IsTrace work flags rows old new (cannot_write log) []

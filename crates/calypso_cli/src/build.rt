@@ -19,7 +19,8 @@ use type_check::checked::Checked;
 /// Writes a file anew.
 fn write_file<'a, F: Files>(files: &mut F, into: &'a str, bytes: &[u8]) -> Ending<'a>
     requires { F.may_write into.now }
-    ensures ends { EndsFile into.now bytes.now (F.holds files.old) (F.holds files.new) (F.faults files.old) (F.faults files.new) (ending_seen result) }
+    ensures ends { EndsFile into.now bytes.now (F.holds files.old) (F.holds files.new) (F.faults files.old) (F.faults files.new)
+        (ending_seen result) }
     ensures later { F.faults files.old ≤ F.faults files.new }
 {
     match files.create(into) {
@@ -47,7 +48,8 @@ fn write_module<'a, F: Files>(
     files: &mut F,
 ) -> Ending<'a>
     requires { F.may_write into.now }
-    ensures ends { EndsBuild program.now into.now (F.holds files.old) (F.holds files.new) (F.faults files.old) (F.faults files.new) (ending_seen result) }
+    ensures ends { EndsBuild program.now into.now (F.holds files.old) (F.holds files.new) (F.faults files.old) (F.faults files.new)
+        (ending_seen result) }
     ensures later { F.faults files.old ≤ F.faults files.new }
 {
     match module_text(alloc, program) {

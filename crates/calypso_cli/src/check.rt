@@ -16,7 +16,8 @@ use type_check::checked::Checked;
 
 /// Writes the canonical text of an accepted program.
 fn print<'a, S: Sink>(alloc: Global, program: &Checked, out: &mut S) -> Ending<'a>
-    ensures ends { EndsWork (check_of program.now) (S.written out.old) (S.written out.new) (S.faults out.old) (S.faults out.new) (ending_seen result) }
+    ensures ends { EndsWork (check_of program.now) (S.written out.old) (S.written out.new) (S.faults out.old) (S.faults out.new)
+        (ending_seen result) }
     ensures later { S.faults out.old ≤ S.faults out.new }
 {
     let Ok(text) = print_program(alloc, program.program()) else {

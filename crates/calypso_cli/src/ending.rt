@@ -161,8 +161,10 @@ impl<'a> Ended<'a> {
 
     /// Writes the line that tells of the ending, and the report behind it.
     fn write<E: Sink>(&self, err: &mut E) -> Result<(), Failed>
-        ensures ok { OnOk result (Appends (E.written err.old) (E.written err.new) (err_text (ending_seen self.now.ending) ++ report_seen self.now.report)) }
-        ensures err { OnErr result (AppendsPrefix (E.written err.old) (E.written err.new) (err_text (ending_seen self.now.ending) ++ report_seen self.now.report)) }
+        ensures ok { OnOk result (Appends (E.written err.old) (E.written err.new)
+            (err_text (ending_seen self.now.ending) ++ report_seen self.now.report)) }
+        ensures err { OnErr result (AppendsPrefix (E.written err.old) (E.written err.new)
+            (err_text (ending_seen self.now.ending) ++ report_seen self.now.report)) }
         ensures cause { HasCause (E.faults err.old) (E.faults err.new) result }
     {
         self.ending.write(err)?;

@@ -20,7 +20,8 @@ const FUEL: u32 = 1_000_000;
 
 /// Runs an accepted program by its tree.
 fn evaluate<'a, S: Sink>(alloc: Global, program: &Checked, out: &mut S) -> Ending<'a>
-    ensures ends { EndsWork (run_of false (meaning program.now usual_fuel)) (S.written out.old) (S.written out.new) (S.faults out.old) (S.faults out.new) (ending_seen result) }
+    ensures ends { EndsWork (run_of false (meaning program.now usual_fuel)) (S.written out.old) (S.written out.new) (S.faults out.old)
+        (S.faults out.new) (ending_seen result) }
     ensures later { S.faults out.old ≤ S.faults out.new }
 {
     match eval(alloc, program, FUEL, out) {

@@ -5,10 +5,12 @@ ghost use Rattle.cal_base.specs.Contents.{Told, SameFiles, Loads};
 ghost use Rattle.csl_grammar.specs.Texts.{text_limit};
 ghost use Rattle.event_world.specs.Law.{Each, IsOfWorker};
 ghost use Rattle.csl_reader.specs.Readings as reading;
-ghost use Rattle.calypso_cli.specs.Commands.{IsRefusedText, IsModule, IsNoModule, module_limit, IsScript, IsNoScript, script_limit, IsNoEvents, events_limit};
+ghost use Rattle.calypso_cli.specs.Commands.{IsRefusedText, IsModule, IsNoModule, module_limit, IsScript, IsNoScript, script_limit};
+ghost use Rattle.calypso_cli.specs.Commands.{IsNoEvents, events_limit};
 ghost use Rattle.command_words.specs.Seen.{flags_seen};
 ghost use Rattle.calypso_cli.specs.Endings.{no_memory};
-ghost use Rattle.calypso_cli.specs.Steps.{Holds, HoldsRows, ReadsAs, IsRefusal, Spells, IsModuleRefusal, IsScriptRefusal, Lists, IsEventsRefusal, NoEnding, TurnsNoneAway, StopsLoad, StopsScript};
+ghost use Rattle.calypso_cli.specs.Steps.{Holds, HoldsRows, ReadsAs, IsRefusal, Spells, IsModuleRefusal, IsScriptRefusal, Lists};
+ghost use Rattle.calypso_cli.specs.Steps.{IsEventsRefusal, NoEnding, TurnsNoneAway, StopsLoad, StopsScript};
 ghost use Rattle.calypso_cli.specs.Seen.{ending_seen};
 
 use crate::Ending;
@@ -44,7 +46,8 @@ fn load_bytes<'a, F: Files>(
     requires small { limit ≤ 16777216 }
     ensures loaded { IfOk result (λ bytes. Loads (F.holds files.old) file.now limit bytes.items) }
     ensures few { IfOk result (λ bytes. length bytes.items ≤ limit) }
-    ensures stops { IfErr result (λ ending. StopsLoad (F.holds files.old) file.now limit NoEnding TurnsNoneAway (F.faults files.old) (F.faults files.new) (ending_seen ending)) }
+    ensures stops { IfErr result (λ ending. StopsLoad (F.holds files.old) file.now limit NoEnding TurnsNoneAway (F.faults files.old)
+        (F.faults files.new) (ending_seen ending)) }
     ensures files { Told (F.holds files.old) (F.holds files.new) SameFiles }
     ensures later { F.faults files.old ≤ F.faults files.new }
 {
@@ -67,7 +70,8 @@ pub(crate) fn load_program<'a, F: Files>(
 ) -> Result<Checked, Ending<'a>>
     requires { F.may_load file.now }
     ensures loaded { IfOk result (λ program. Holds (F.holds files.old) file.now (ReadsAs (reading.accepted program))) }
-    ensures stops { IfErr result (λ ending. StopsLoad (F.holds files.old) file.now text_limit IsRefusal IsRefusedText (F.faults files.old) (F.faults files.new) (ending_seen ending)) }
+    ensures stops { IfErr result (λ ending. StopsLoad (F.holds files.old) file.now text_limit IsRefusal IsRefusedText (F.faults files.old)
+        (F.faults files.new) (ending_seen ending)) }
     ensures files { Told (F.holds files.old) (F.holds files.new) SameFiles }
     ensures later { F.faults files.old ≤ F.faults files.new }
 {
@@ -107,7 +111,8 @@ pub(crate) fn load_module<'a, F: Files>(
 ) -> Result<Verified, Ending<'a>>
     requires { F.may_load file.now }
     ensures loaded { IfOk result (λ code. Holds (F.holds files.old) file.now (Spells code)) }
-    ensures stops { IfErr result (λ ending. StopsLoad (F.holds files.old) file.now module_limit IsModuleRefusal IsNoModule (F.faults files.old) (F.faults files.new) (ending_seen ending)) }
+    ensures stops { IfErr result (λ ending. StopsLoad (F.holds files.old) file.now module_limit IsModuleRefusal IsNoModule
+        (F.faults files.old) (F.faults files.new) (ending_seen ending)) }
     ensures files { Told (F.holds files.old) (F.holds files.new) SameFiles }
     ensures later { F.faults files.old ≤ F.faults files.new }
 {
@@ -124,8 +129,10 @@ fn load_rows<'a, F: Files>(
     file: &'a str,
 ) -> Result<Script, Ending<'a>>
     requires { F.may_load file.now }
-    ensures loaded { IfOk result (λ script. Holds (F.holds files.old) file.now (λ bytes. (length bytes ≤ script_limit) × IsScript bytes script)) }
-    ensures stops { IfErr result (λ ending. StopsLoad (F.holds files.old) file.now script_limit IsScriptRefusal IsNoScript (F.faults files.old) (F.faults files.new) (ending_seen ending)) }
+    ensures loaded { IfOk result (λ script. Holds (F.holds files.old) file.now
+        (λ bytes. (length bytes ≤ script_limit) × IsScript bytes script)) }
+    ensures stops { IfErr result (λ ending. StopsLoad (F.holds files.old) file.now script_limit IsScriptRefusal IsNoScript
+        (F.faults files.old) (F.faults files.new) (ending_seen ending)) }
     ensures files { Told (F.holds files.old) (F.holds files.new) SameFiles }
     ensures later { F.faults files.old ≤ F.faults files.new }
 {
@@ -148,7 +155,8 @@ pub(crate) fn load_script<'a, F: Files>(
 ) -> Result<Script, Ending<'a>>
     requires { (name : List ℕ) → (flags_seen flags.now).script ≡ Some name → F.may_load name }
     ensures rows { IfOk result (λ script. HoldsRows (F.holds files.old) (flags_seen flags.now).script script) }
-    ensures stops { IfErr result (λ ending. StopsScript (F.holds files.old) (flags_seen flags.now).script (F.faults files.old) (F.faults files.new) (ending_seen ending)) }
+    ensures stops { IfErr result (λ ending. StopsScript (F.holds files.old) (flags_seen flags.now).script (F.faults files.old)
+        (F.faults files.new) (ending_seen ending)) }
     ensures files { Told (F.holds files.old) (F.holds files.new) SameFiles }
     ensures later { F.faults files.old ≤ F.faults files.new }
 {
@@ -167,7 +175,8 @@ pub(crate) fn load_events<'a, F: Files>(
     requires { F.may_load file.now }
     ensures listed { IfOk result (λ list. Holds (F.holds files.old) file.now (Lists list.items)) }
     ensures workers { IfOk result (λ list. Each IsOfWorker list.items) }
-    ensures stops { IfErr result (λ ending. StopsLoad (F.holds files.old) file.now events_limit IsEventsRefusal IsNoEvents (F.faults files.old) (F.faults files.new) (ending_seen ending)) }
+    ensures stops { IfErr result (λ ending. StopsLoad (F.holds files.old) file.now events_limit IsEventsRefusal IsNoEvents
+        (F.faults files.old) (F.faults files.new) (ending_seen ending)) }
     ensures files { Told (F.holds files.old) (F.holds files.new) SameFiles }
     ensures later { F.faults files.old ≤ F.faults files.new }
 {

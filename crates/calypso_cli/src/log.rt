@@ -28,7 +28,8 @@ pub(crate) fn create_log<'a, F: Files>(
     requires { IfSome log (λ name. F.may_write name.now) }
     ensures ok { IfOk result (λ _. Told (F.holds files.old) (F.holds files.new) (EmptiesLog (option_map (λ name. name.now) log.entry))) }
     ensures created { IfOk result (λ _. IfSome log.entry (λ name. F.created files.new name.now)) }
-    ensures err { IfErr result (λ ending. NotCreated (option_map (λ name. name.now) log.entry) (F.holds files.old) (F.holds files.new) (F.faults files.old) (F.faults files.new) (ending_seen ending)) }
+    ensures err { IfErr result (λ ending. NotCreated (option_map (λ name. name.now) log.entry) (F.holds files.old) (F.holds files.new)
+        (F.faults files.old) (F.faults files.new) (ending_seen ending)) }
     ensures later { F.faults files.old ≤ F.faults files.new }
 {
     let Some(name) = log else {

@@ -36,7 +36,8 @@ fn run_compiled<'a, R: Threads + Wait + Sync, F: Files, S: Sink, G: Gate>(
     gate: &G,
 ) -> Ended<'a>
     requires { (name : List ℕ) → (flags_seen flags.now).log ≡ Some name → F.may_write name }
-    ensures ends { EndsRun (IsTraceOf (steps_of (main program.now flags.now.fuel))) (run_of flags.now.steps (meaning program.now flags.now.fuel)) (flags_seen flags.now) script.now
+    ensures ends { EndsRun (IsTraceOf (steps_of (main program.now flags.now.fuel)))
+        (run_of flags.now.steps (meaning program.now flags.now.fuel)) (flags_seen flags.now) script.now
         (objects_of (F.holds files.old) (S.written out.old) (F.faults files.old) (S.faults out.old))
         (objects_of (F.holds files.new) (S.written out.new) (F.faults files.new) (S.faults out.new))
         (ending_seen result.ending) (report_seen result.report) }

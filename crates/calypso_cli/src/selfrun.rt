@@ -38,7 +38,8 @@ const FRAMES: u32 = 64;
 /// The generated program as a tree, or how the call ends.
 fn read_generated<'a>(alloc: Global, which: &Generated) -> Result<Checked, Ending<'a>>
     ensures read { IfOk result (λ p. IsRead (program.generated which.now.number which.now.size) (reading.accepted p)) }
-    ensures turned { IfErr result (λ ending. (ending_seen ending ≡ no_memory) ⊎ IsRefusedText (program.generated which.now.number which.now.size) (ending_seen ending)) }
+    ensures turned { IfErr result (λ ending. (ending_seen ending ≡ no_memory)
+        ⊎ IsRefusedText (program.generated which.now.number which.now.size) (ending_seen ending)) }
 {
     let Ok(text) = generate(alloc, which.number, which.size) else {
         return Err(Ending::NoMemory);
@@ -59,7 +60,8 @@ fn run_by_eight<'a, R: Threads + Wait + Sync, F: Files, S: Sink, G: Gate>(
     out: &mut S,
     gate: &G,
 ) -> Ending<'a>
-    ensures ends { EndsWork (run_of false (meaning program.now usual_fuel)) (S.written out.old) (S.written out.new) (S.faults out.old) (S.faults out.new) (ending_seen result) }
+    ensures ends { EndsWork (run_of false (meaning program.now usual_fuel)) (S.written out.old) (S.written out.new) (S.faults out.old)
+        (S.faults out.new) (ending_seen result) }
     ensures files { Told (F.holds files.old) (F.holds files.new) SameFiles }
     ensures files_later { F.faults files.old ≤ F.faults files.new }
     ensures out_later { S.faults out.old ≤ S.faults out.new }

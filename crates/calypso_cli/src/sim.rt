@@ -30,7 +30,8 @@ fn simulate<'a, F: Files, S: Sink>(
 ) -> Ending<'a>
     requires workers { Each IsOfWorker events.now }
     requires write { IfSome log (λ name. F.may_write name.now) }
-    ensures ends { EndsRun (IsSimulated program.now events.now) (run_of false (meaning program.now usual_fuel)) (simulation (option_map (λ name. name.now) log.entry)) []
+    ensures ends { EndsRun (IsSimulated program.now events.now) (run_of false (meaning program.now usual_fuel))
+        (simulation (option_map (λ name. name.now) log.entry)) []
         (objects_of (F.holds files.old) (S.written out.old) (F.faults files.old) (S.faults out.old))
         (objects_of (F.holds files.new) (S.written out.new) (F.faults files.new) (S.faults out.new))
         (ending_seen result) [] }

@@ -62,7 +62,8 @@ whos_of : (ws : List WorkerState) → map (λ (w : WorkerState). w.tally.who) ws
 whos_of [] = refl
 whos_of (w ∷ ws) = ap (λ xs. w.tally.who ∷ xs) (whos_of ws)
 
-module _ (rows : List Row) (count : ℕ) (image : Paged) (m : Module) (team : Team) (begun : AreBegun rows count image m team.workers.items) (tally : team.caller.tally ≡ first_tally CALLER) (may : MayWork team.caller image m) where
+module _ (rows : List Row) (count : ℕ) (image : Paged) (m : Module) (team : Team) (begun : AreBegun rows count image m team.workers.items) (tally : team.caller.tally ≡ first_tally CALLER)
+    (may : MayWork team.caller image m) where
   pub fresh : IsFresh rows count image m team
   fresh = record {
     workers = begun;

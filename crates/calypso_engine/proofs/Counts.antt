@@ -36,7 +36,8 @@ claimed_then old mid new a b first second =
 claims_on : (both one two before mid after : ℕ) → both ≡ one + two → one + before ≡ mid → two + mid ≡ after → both + before ≡ after
 claims_on both one two before mid after p q r = omega arith
 
-arrivals_on : (both one two kept0 kept1 kept2 done0 done1 done2 : ℕ) → both ≡ one + two → one + kept1 + done0 ≡ done1 + kept0 → two + kept2 + done1 ≡ done2 + kept1 → both + kept2 + done0 ≡ done2 + kept0
+arrivals_on : (both one two kept0 kept1 kept2 done0 done1 done2 : ℕ) → both ≡ one + two → one + kept1 + done0 ≡ done1 + kept0 → two + kept2 + done1 ≡ done2 + kept1
+    → both + kept2 + done0 ≡ done2 + kept0
 arrivals_on both one two k0 k1 k2 d0 d1 d2 p q r = omega arith
 
 falls_on : (a b c : ℕ) → b ≤ a → c ≤ b → c ≤ a

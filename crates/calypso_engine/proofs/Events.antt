@@ -43,7 +43,8 @@ module _ (o : RunOptions) where
   pub told_none : (was : Outside) → LogHolds (log_of o) was.files → Tells o [] [] was was
   told_none was holds = record { written = Appends-nil was.out; logged = logs_none (log_of o) was.files holds }
 
-  pub told_then : (shown more : List Event) (closed steps : List ClosedStep) (was mid now : Outside) → Tells o shown closed was mid → Tells o more steps mid now → Tells o (shown ++ more) (closed ++ steps) was now
+  pub told_then : (shown more : List Event) (closed steps : List ClosedStep) (was mid now : Outside) → Tells o shown closed was mid → Tells o more steps mid now
+      → Tells o (shown ++ more) (closed ++ steps) was now
   told_then shown more closed steps was mid now first second = record {
     written = subst (Appends was.out now.out) (sym (text_then o.steps shown more)) (Appends-trans was.out mid.out now.out (text_of o.steps shown) (text_of o.steps more) first.written second.written);
     logged =
@@ -122,7 +123,8 @@ module _ (o : RunOptions) where
 
   -- ---- a line
 
-  pub line_went : (m : Module) (main : Main) (after : Standing) (tally : Team) (line : List ℕ) (was : Outside) (out : Option (List ℕ)) → main ≡ Shows line (rest_of m o.fuel after) → LogHolds (log_of o) was.files
+  pub line_went : (m : Module) (main : Main) (after : Standing) (tally : Team) (line : List ℕ) (was : Outside) (out : Option (List ℕ)) → main ≡ Shows line (rest_of m o.fuel after)
+      → LogHolds (log_of o) was.files
       → Appends was.out out line → WentOn m o main after tally tally was (outside_of out was.files)
   line_went m main after tally line was out is holds written = record {
     shown = Line line ∷ [];
@@ -132,7 +134,8 @@ module _ (o : RunOptions) where
     counted = counted_none tally;
   }
 
-  pub line_gave : (main rest : Main) (steps : ℕ) → IsNumbered steps main → (line : List ℕ) (error : RunError) (was : Outside) (out : Option (List ℕ)) → main ≡ Shows line rest → LogHolds (log_of o) was.files
+  pub line_gave : (main rest : Main) (steps : ℕ) → IsNumbered steps main → (line : List ℕ) (error : RunError) (was : Outside) (out : Option (List ℕ)) → main ≡ Shows line rest
+      → LogHolds (log_of o) was.files
       → AppendsPrefix was.out out line → (error ≡ NoMemory → Appends was.out out []) → GaveUp o main error was (outside_of out was.files)
   line_gave main rest steps numbered line error was out is holds front none =
       let trace = a_trace main steps numbered in
@@ -192,7 +195,8 @@ module _ (o : RunOptions) where
     }
 
     -- it could not be told whole
-    front_of : (ended : Result (Unit {0}) StepFault) (later : Memory) (kept : Option Paged) → IsEnd (meant job) later ended → lines_behind kept job.number later ≡ event_text o.steps (step_event job later)
+    front_of : (ended : Result (Unit {0}) StepFault) (later : Memory) (kept : Option Paged) → IsEnd (meant job) later ended
+        → lines_behind kept job.number later ≡ event_text o.steps (step_event job later)
         → AppendsPrefix was.out now.out (lines_of_end ended kept job.number later) → AppendsPrefix was.out now.out (text_of o.steps (meaning_of (Opens job next)).events)
     front_of (Ok done) later kept left lines front =
         subst (λ (r : Result Memory StepFault). AppendsPrefix was.out now.out (text_of o.steps (going_on job r (λ later. meaning_of (next later))).events)) (sym left)

@@ -41,10 +41,12 @@ module _ (m : Module) (ok : IsVerified m) where
   comes_falls (suc n) s x fits e = falls_at n s (next m s) x (next_good m ok false s fits) e (λ s' h e'. comes_falls n s' x h.0 e')
 
 -- main, which may go on, has fewer steps ahead behind its next event
-pub main_falls : (m : Module) (ok : IsVerified m) (h : Held) (memory : Memory) (x : Next) → MayGoOn m h → outcome_from m (main_state m h memory) ≡ Comes x → Falls m (most_steps m (main_state m h [])) x
+pub main_falls : (m : Module) (ok : IsVerified m) (h : Held) (memory : Memory) (x : Next) → MayGoOn m h → outcome_from m (main_state m h memory) ≡ Comes x
+    → Falls m (most_steps m (main_state m h [])) x
 main_falls m ok h memory x may e =
     comes_falls m ok (most_steps m (main_state m h memory) + 1) (main_state m h memory) x (record { owner = refl; call = may.fits.call; waits = may.fits.waits; few = may.fits.few }) e
 
 -- the same behind a step, which keeps the machine
-pub step_falls : (m : Module) (before mid after : Held) → after ≡ mid → most_steps m (main_state m mid []) < most_steps m (main_state m before []) → most_steps m (main_state m after []) < most_steps m (main_state m before [])
+pub step_falls : (m : Module) (before mid after : Held) → after ≡ mid → most_steps m (main_state m mid []) < most_steps m (main_state m before [])
+    → most_steps m (main_state m after []) < most_steps m (main_state m before [])
 step_falls m before mid after same lt = subst (λ (h : Held). most_steps m (main_state m h []) < most_steps m (main_state m before [])) (sym same) lt

@@ -88,7 +88,8 @@ module _ (job : StepJob) where
       let off : is_open later k ≡ false = ap (λ b. not b && ltb 0 (claims_of later k)) (delivered_at history who step k) in
       let asked : ltb 0 (claims_of history k) ≡ true = some_claims (claims_of history k) means.1 in
       let on : is_open history k ≡ true = (λ i. not (means.2 i) && asked i) in
-      let others : (j : ℕ) → (j ≡ k → ⊥) → is_open history j ≡ is_open later j = λ j apart. let given = delivered_apart history who step k j apart in λ i. not (sym given i) && ltb 0 (sym (claims j) i) in
+      let others : (j : ℕ) → (j ≡ k → ⊥) → is_open history j ≡ is_open later j = λ j apart. let given = delivered_apart history who step k j apart in λ i. not (sym given i) && ltb 0
+      (sym (claims j) i) in
       record {
         spare =
             omega (

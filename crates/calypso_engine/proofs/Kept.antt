@@ -64,7 +64,8 @@ room_behind true before later None kept room keeps kinds = absurd room
 room_behind true before later (Some old) None room keeps kinds = absurd keeps
 room_behind true before later (Some old) (Some copy) room keeps kinds = ap kinds_of keeps ∙ sym kinds
 
-pub kept_lines : (steps : Bool) (before later : Memory) (old kept : Option Paged) (number size : ℕ) → HasRoom steps before old → KeepsCopy before old kept → lines_behind kept number later ≡ event_text steps (Step number size before later)
+pub kept_lines : (steps : Bool) (before later : Memory) (old kept : Option Paged) (number size : ℕ) → HasRoom steps before old → KeepsCopy before old kept
+    → lines_behind kept number later ≡ event_text steps (Step number size before later)
 kept_lines false before later None None number size room keeps = refl
 kept_lines false before later None (Some copy) number size room keeps = absurd keeps
 kept_lines false before later (Some old) kept number size room keeps = absurd room

@@ -25,7 +25,8 @@ drop_more (x ∷ xs) (suc i) lt = drop_more xs i (omega arith)
 module _ {A : Type 0} (piece : A → List ℕ) where
   -- the last piece, and then a line feed
   last_piece : (line : List ℕ) (x : A) (rest : List A) → rest ≡ [] → (line ++ piece x) ++ line_of (map piece rest) ≡ line ++ line_of (map piece (x ∷ rest))
-  last_piece line x rest none = ap (λ (r : List A). (line ++ piece x) ++ line_of (map piece r)) none ∙ append_assoc line (piece x) (10 ∷ []) ∙ ap (λ (r : List A). line ++ line_of (map piece (x ∷ r))) (sym none)
+  last_piece line x rest none = ap (λ (r : List A). (line ++ piece x) ++ line_of (map piece r)) none ∙ append_assoc line (piece x) (10 ∷ [])
+      ∙ ap (λ (r : List A). line ++ line_of (map piece (x ∷ r))) (sym none)
 
   -- another piece, and a blank before the next one
   other_piece : (line : List ℕ) (x y : A) (rest more : List A) → rest ≡ y ∷ more → (line ++ (piece x ++ 32 ∷ [])) ++ line_of (map piece rest) ≡ line ++ line_of (map piece (x ∷ rest))
@@ -53,5 +54,6 @@ module _ {A : Type 0} (piece : A → List ℕ) where
       ∙ ap (λ (r : List A). line ++ line_of (map piece r)) (sym (drop_at items i x at))
 
   -- at the end
-  pub pieces_end : (items : List A) (n i : ℕ) (line : List ℕ) → n ≡ length items → n ≤ i → line ++ line_of (map piece (drop i items)) ≡ line_of (map piece items) → line ++ 10 ∷ [] ≡ line_of (map piece items)
+  pub pieces_end : (items : List A) (n i : ℕ) (line : List ℕ) → n ≡ length items → n ≤ i → line ++ line_of (map piece (drop i items)) ≡ line_of (map piece items)
+      → line ++ 10 ∷ [] ≡ line_of (map piece items)
   pieces_end items n i line size le e = ap (λ (r : List A). line ++ line_of (map piece r)) (sym (drop_end items i (omega arith))) ∙ e

@@ -24,7 +24,8 @@ use Rattle.calypso_engine.proofs.Events.{rest_behind}
 use Rattle.calypso_engine.proofs.Teams.{members_later}
 
 -- the team may still work on a later image
-team_later : (rows : List Row) (workers steps now : ℕ) (image later : Paged) (m : Module) (team : Team) → now ≡ steps → IsLater image later → IsTeam rows workers steps image m team → IsTeam rows workers now later m team
+team_later : (rows : List Row) (workers steps now : ℕ) (image later : Paged) (m : Module) (team : Team) → now ≡ steps → IsLater image later → IsTeam rows workers steps image m team
+    → IsTeam rows workers now later m team
 team_later rows workers steps now image later m team same is all = record {
   members = subst (λ (k : ℕ). AllByRecursion (IsMember rows k later m) team.workers.items) (sym same) (members_later rows m steps image later is team.workers.items all.members);
   numbers = all.numbers;
@@ -41,7 +42,8 @@ room_later true before later (Some copy) room kinds = room ∙ sym kinds
 
 module _ (m : Module) (o : RunOptions) (before : Standing) (team : Team) (ready : IsReady m o before team) where
   -- behind a line
-  pub line_ready : (after : Standing) (line : List ℕ) → rest_of m o.fuel before ≡ Shows line (rest_of m o.fuel after) → MayGoOn m after.machine → IsLater before.image after.image → after.kept ≡ before.kept → after.steps ≡ before.steps
+  pub line_ready : (after : Standing) (line : List ℕ) → rest_of m o.fuel before ≡ Shows line (rest_of m o.fuel after) → MayGoOn m after.machine → IsLater before.image after.image
+      → after.kept ≡ before.kept → after.steps ≡ before.steps
       → IsReady m o after team
   line_ready after line is may later kept steps = record {
     may = may;
@@ -56,7 +58,8 @@ module _ (m : Module) (o : RunOptions) (before : Standing) (team : Team) (ready 
   }
 
   -- a step may be opened
-  pub step_may : (mid : Standing) (first : ℕ) → rest_of m o.fuel before ≡ opening_here m o.fuel first mid → IsLater before.image mid.image → mid.kept ≡ before.kept → mid.steps ≡ before.steps → MayStep m o first mid team
+  pub step_may : (mid : Standing) (first : ℕ) → rest_of m o.fuel before ≡ opening_here m o.fuel first mid → IsLater before.image mid.image → mid.kept ≡ before.kept → mid.steps ≡ before.steps
+      → MayStep m o first mid team
   step_may mid first is later kept steps = record {
     working = team_later o.script.now o.workers before.steps mid.steps before.image mid.image m team steps later ready.working;
     workers = ready.few;
@@ -66,7 +69,8 @@ module _ (m : Module) (o : RunOptions) (before : Standing) (team : Team) (ready 
   }
 
   -- behind a step
-  pub step_ready : (mid after : Standing) (first : ℕ) (new : Team) → rest_of m o.fuel before ≡ opening_here m o.fuel first mid → mid.steps ≡ before.steps → MayGoOn m mid.machine → IsBehind m o mid after new → IsReady m o after new
+  pub step_ready : (mid after : Standing) (first : ℕ) (new : Team) → rest_of m o.fuel before ≡ opening_here m o.fuel first mid → mid.steps ≡ before.steps → MayGoOn m mid.machine
+      → IsBehind m o mid after new → IsReady m o after new
   step_ready mid after first new is same may behind =
       let numbered : IsNumbered before.steps (opening_here m o.fuel first mid) = subst (λ (r : Main). IsNumbered before.steps r) is ready.numbered in
       let units : TakesUnits ready.left (opening_here m o.fuel first mid) = subst (λ (r : Main). TakesUnits ready.left r) is ready.units in

@@ -10,9 +10,11 @@ use Rattle.engine_laws.specs.Ran.{RunsTo, Here, Shown, Closed, RunsThrough, Ende
 
 module _ (main mid : Main) (shown : List Event) (closed : List ClosedStep) (first : RunsTo main mid shown closed) where
   pub runs_then : (rest : Main) (more : List Event) (steps : List ClosedStep) → RunsTo mid rest more steps → RunsTo main rest (shown ++ more) (closed ++ steps)
-  runs_then _ _ _ Here = subst (λ (l : List Event). RunsTo main mid l (closed ++ [])) (sym (append-nil shown)) (subst (λ (l : List ClosedStep). RunsTo main mid shown l) (sym (append-nil closed)) first)
+  runs_then _ _ _ Here = subst (λ (l : List Event). RunsTo main mid l (closed ++ [])) (sym (append-nil shown))
+      (subst (λ (l : List ClosedStep). RunsTo main mid shown l) (sym (append-nil closed)) first)
   runs_then _ _ _ (Shown line rest more steps runs) =
-      subst (λ (l : List Event). RunsTo main rest l (closed ++ steps)) (append_assoc shown more (Line line ∷ [])) (Shown line rest (shown ++ more) (closed ++ steps) (runs_then (Shows line rest) more steps runs))
+      subst (λ (l : List Event). RunsTo main rest l (closed ++ steps)) (append_assoc shown more (Line line ∷ []))
+      (Shown line rest (shown ++ more) (closed ++ steps) (runs_then (Shows line rest) more steps runs))
   runs_then _ _ _ (Closed job next more steps history later runs whole left) =
       subst (λ (l : List Event). RunsTo main (next later) l (closed ++ (steps ++ record { job = job; history = history } ∷ []))) (append_assoc shown more (step_event job later ∷ []))
       (subst (λ (l : List ClosedStep). RunsTo main (next later) ((shown ++ more) ++ step_event job later ∷ []) l) (append_assoc closed steps (record { job = job; history = history } ∷ []))

@@ -25,7 +25,8 @@ some_below (Some s) a b e h = omega (arith, e, h)
 
 module _ (rows : List Row) (m : Module) where
   -- on a later image
-  pub members_later : (steps : ℕ) (image later : Paged) → IsLater image later → (ws : List WorkerState) → AllByRecursion (IsMember rows steps image m) ws → AllByRecursion (IsMember rows steps later m) ws
+  pub members_later : (steps : ℕ) (image later : Paged) → IsLater image later → (ws : List WorkerState) → AllByRecursion (IsMember rows steps image m) ws
+      → AllByRecursion (IsMember rows steps later m) ws
   members_later steps image later is [] all = tt
   members_later steps image later is (w ∷ ws) all = (
     record { number = all.0.number; row = all.0.row; follows = all.0.follows; holds = all.0.holds; may = may_work_later w image later m all.0.may is },
@@ -33,7 +34,8 @@ module _ (rows : List Row) (m : Module) where
   )
 
   -- ready for the next step
-  pub members_ready : (steps number : ℕ) (image : Paged) → number ≡ steps + 1 → (ws : List WorkerState) → AllByRecursion (IsMember rows steps image m) ws → AllByRecursion (worked.IsReady number image m) ws
+  pub members_ready : (steps number : ℕ) (image : Paged) → number ≡ steps + 1 → (ws : List WorkerState) → AllByRecursion (IsMember rows steps image m) ws
+      → AllByRecursion (worked.IsReady number image m) ws
   members_ready steps number image e [] all = tt
   members_ready steps number image e (w ∷ ws) all = (
     record { number = all.0.number; holds = some_below w.holds steps number e all.0.holds; may = all.0.may },
@@ -41,7 +43,8 @@ module _ (rows : List Row) (m : Module) where
   )
 
   -- behind the step
-  pub members_after : (steps number : ℕ) (image : Paged) → number ≡ steps + 1 → (before after : List WorkerState) → AllByRecursion (IsMember rows steps image m) before → AllZip (IsLeft number image m) before after
+  pub members_after : (steps number : ℕ) (image : Paged) → number ≡ steps + 1 → (before after : List WorkerState) → AllByRecursion (IsMember rows steps image m) before
+      → AllZip (IsLeft number image m) before after
       → AllByRecursion (IsMember rows (steps + 1) image m) after
   members_after steps number image e [] [] all left = tt
   members_after steps number image e [] (v ∷ vs) all left = absurd left
@@ -106,7 +109,8 @@ pub team_few : (count : ℕ) (ws : List WorkerState) → map (λ (w : WorkerStat
 team_few count ws numbers few = omega (arith, few, sym (length-map ws (λ (w : WorkerState). w.tally.who)) ∙ ap length numbers ∙ length-range_with_len 0 count)
 
 -- the tallies of a team that may work
-members_follow : (rows : List Row) (steps : ℕ) (image : Paged) (m : Module) (ws : List WorkerState) → AllByRecursion (IsMember rows steps image m) ws → AllByRecursion (λ (w : WorkerState). IsTallyOf (row_of rows w.tally.who) w.tally) ws
+members_follow : (rows : List Row) (steps : ℕ) (image : Paged) (m : Module) (ws : List WorkerState) → AllByRecursion (IsMember rows steps image m) ws
+    → AllByRecursion (λ (w : WorkerState). IsTallyOf (row_of rows w.tally.who) w.tally) ws
 members_follow rows steps image m [] all = tt
 members_follow rows steps image m (w ∷ ws) all = (subst (λ (row : Row). IsTallyOf row w.tally) all.0.row all.0.follows, members_follow rows steps image m ws all.1)
 

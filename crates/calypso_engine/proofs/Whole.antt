@@ -74,7 +74,8 @@ module _ (f : WorkerTally → ℕ) where
   first_sum none [] = refl
   first_sum none (who ∷ whos) = sum_by-cons f (first_tally who) (map first_tally whos) ∙ omega (arith, none who, first_sum none whos)
 
-  pub begun_sum : ((who : ℕ) → f (first_tally who) ≡ 0) → (rows : List Row) (count : ℕ) (image : Paged) (m : Module) (ws : List WorkerState) → AreBegun rows count image m ws → sum_by (λ (w : WorkerState). f w.tally) ws ≡ 0
+  pub begun_sum : ((who : ℕ) → f (first_tally who) ≡ 0) → (rows : List Row) (count : ℕ) (image : Paged) (m : Module) (ws : List WorkerState) → AreBegun rows count image m ws
+      → sum_by (λ (w : WorkerState). f w.tally) ws ≡ 0
   begun_sum none rows count image m ws begun = sym (tally_sum ws) ∙ ap (sum_by f) begun.tallies ∙ first_sum none (range_with_len 0 count)
 
 each_waits : (closed : List ClosedStep) → Each (λ (step : ClosedStep). WaitsForWorkers (traced step)) closed → AllByRecursion WaitsForWorkers (trace_of closed)
@@ -98,7 +99,8 @@ some_goes_on ws any = at ws any.0 any.1 any.2 any.3 any.4
     at (w ∷ ws) zero t below is on = omega (arith, sum_by-cons ends w ws, ends_is w (ap (λ (x : WorkerTally). x.stopped) is ∙ on))
     at (w ∷ ws) (suc k) t below is on = omega (arith, sum_by-cons ends w ws, at ws k t (omega (arith, below)) is on)
 
-follows_all : (rows : List Row) (ws : List WorkerState) → AllByRecursion (λ (w : WorkerState). IsTallyOf (row_of rows w.tally.who) w.tally) ws → AllByRecursion (λ (t : WorkerTally). IsTallyOf (row_of rows t.who) t) (tallies_of ws)
+follows_all : (rows : List Row) (ws : List WorkerState) → AllByRecursion (λ (w : WorkerState). IsTallyOf (row_of rows w.tally.who) w.tally) ws
+    → AllByRecursion (λ (t : WorkerTally). IsTallyOf (row_of rows t.who) t) (tallies_of ws)
 follows_all rows [] all = tt
 follows_all rows (w ∷ ws) all = (all.0, follows_all rows ws all.1)
 
@@ -119,7 +121,8 @@ firsts_are f c k w r b p q s = omega arith
 
 -- ---- the tallies of a run agree with its trace
 
-module _ (closed : List ClosedStep) (whole : Each IsWhole closed) (rows : List Row) (count : ℕ) (image : Paged) (m : Module) (old new : Team) (fresh : IsFresh rows count image m old) (counted : Counted closed old new) where
+module _ (closed : List ClosedStep) (whole : Each IsWhole closed) (rows : List Row) (count : ℕ) (image : Paged) (m : Module) (old new : Team) (fresh : IsFresh rows count image m old)
+    (counted : Counted closed old new) where
   abbrev ws : List WorkerState
   ws = old.workers.items
 
@@ -135,7 +138,8 @@ module _ (closed : List ClosedStep) (whole : Each IsWhole closed) (rows : List R
 
   caller_is : new.caller.tally ≡ callers_tally new.caller.tally.claims new.caller.tally.pages
   caller_is =
-      let more : ClaimedMore (first_tally CALLER) (callers_claims closed) new.caller.tally = subst (λ (t : WorkerTally). ClaimedMore t (callers_claims closed) new.caller.tally) fresh.caller counted.caller in
+      let more : ClaimedMore (first_tally CALLER) (callers_claims closed) new.caller.tally = subst (λ (t : WorkerTally). ClaimedMore t (callers_claims closed) new.caller.tally) fresh.caller
+      counted.caller in
       let claims : new.caller.tally.claims ≡ 0 + callers_claims closed = ap (λ (t : WorkerTally). t.claims) more in
       more ∙ (λ i. callers_tally (sym claims i) new.caller.tally.pages)
 
@@ -156,11 +160,14 @@ module _ (closed : List ClosedStep) (whole : Each IsWhole closed) (rows : List R
           ≡ sum_by (λ (t : WorkerTally). t.executed) (tallies_of vs) + sum_by (λ (t : WorkerTally). t.repeated) (tallies_of vs)
       arrivals_so =
           let here =
-          arrivals_are (entries_in is_current (trace_of closed)) _ (total (λ t. t.lost) vs) (total (λ t. t.held) vs) (total (λ t. t.executed) vs) (total (λ t. t.repeated) vs) (total (λ t. t.lost) ws) (total (λ t. t.held) ws) (total (λ t. t.executed) ws)
-          (total (λ t. t.repeated) ws) (traced_sum (count_by is_current) closed) counted.arrivals (begun_sum (λ t. t.lost) (λ who. refl) rows count image m ws fresh.workers) (begun_sum (λ t. t.held) (λ who. refl) rows count image m ws fresh.workers)
+          arrivals_are (entries_in is_current (trace_of closed)) _ (total (λ t. t.lost) vs) (total (λ t. t.held) vs) (total (λ t. t.executed) vs) (total (λ t. t.repeated) vs) (total (λ t. t.lost) ws)
+          (total (λ t. t.held) ws) (total (λ t. t.executed) ws)
+          (total (λ t. t.repeated) ws) (traced_sum (count_by is_current) closed) counted.arrivals (begun_sum (λ t. t.lost) (λ who. refl) rows count image m ws fresh.workers)
+          (begun_sum (λ t. t.held) (λ who. refl) rows count image m ws fresh.workers)
           (begun_sum (λ t. t.executed) (λ who. refl) rows count image m ws fresh.workers) (begun_sum (λ t. t.repeated) (λ who. refl) rows count image m ws fresh.workers)
           in
-          (λ i. entries_in is_current (trace_of closed) + (tally_sum (λ t. t.lost) vs i + tally_sum (λ t. t.held) vs i)) ∙ here ∙ (λ i. sym (tally_sum (λ t. t.executed) vs) i + sym (tally_sum (λ t. t.repeated) vs) i)
+          (λ i. entries_in is_current (trace_of closed) + (tally_sum (λ t. t.lost) vs i + tally_sum (λ t. t.held) vs i)) ∙ here
+          ∙ (λ i. sym (tally_sum (λ t. t.executed) vs) i + sym (tally_sum (λ t. t.repeated) vs) i)
 
       firsts_so : entries_in is_first_arrival (trace_of closed) ≤ sum_by (λ (t : WorkerTally). t.claims) (tallies_of vs) + new.caller.tally.claims
       firsts_so =

@@ -54,7 +54,8 @@ pub empty_complete : (job : StepJob) → size_of job ≡ 0 → IsComplete job []
 empty_complete job none =
     subst (λ (n : ℕ). IsComplete job (with_pairs n job [])) none (caller_completes job [] tt (record { claims = refl; arrivals = refl }) (omega (arith, none))).1
 
-pub none_gathered : (job : StepJob) (image : Paged) (m : Module) (before : List WorkerState) → (size_of job ≡ 0) ⊎ (length before ≡ 0) → AllZip (IsLeft job.number image m) before before → Gathered job image m [] before before
+pub none_gathered : (job : StepJob) (image : Paged) (m : Module) (before : List WorkerState) → (size_of job ≡ 0) ⊎ (length before ≡ 0) → AllZip (IsLeft job.number image m) before before
+    → Gathered job image m [] before before
 none_gathered job image m before none left = record {
   legal = tt;
   alone = record { claims = refl; arrivals = refl };
@@ -80,7 +81,8 @@ module _ (job : StepJob) (h0 : History) (alone : NoCaller h0) (waits : IsComplet
       waits
 
 -- what the team did in a step of which this history of the workers was gathered
-module _ (job : StepJob) (image : Paged) (m : Module) (h0 : History) (old new : Team) (gathered : Gathered job image m h0 old.workers.items new.workers.items) (tally : ClaimedMore old.caller.tally (claims_by is_caller (completed job h0)) new.caller.tally) where
+module _ (job : StepJob) (image : Paged) (m : Module) (h0 : History) (old new : Team) (gathered : Gathered job image m h0 old.workers.items new.workers.items)
+    (tally : ClaimedMore old.caller.tally (claims_by is_caller (completed job h0)) new.caller.tally) where
   abbrev this : ClosedStep
   this = record { job = job; history = completed job h0 }
 

@@ -58,11 +58,14 @@ pub record Tells (options : RunOptions) (shown : List Event) (closed : List Clos
 
 -- in some closed steps the team did what its tallies say; and a worker that goes on behind them found no more work in each, so that the caller waited
 pub record Counted (closed : List ClosedStep) (old new : Team) : Type 0 where
-  pub claims : sum_by (λ step. claims_by is_worker step.history) closed + total (λ t. t.claims) old.workers.items ≡ total (λ t. t.claims) new.workers.items
+  pub claims : sum_by (λ step. claims_by is_worker step.history) closed + total (λ t. t.claims) old.workers.items ≡ total (λ t. t.claims)
+      new.workers.items
   pub arrivals :
-      sum_by (λ step. count_by is_current step.history) closed + (total (λ t. t.lost) new.workers.items + total (λ t. t.held) new.workers.items)
+      sum_by (λ step. count_by is_current step.history) closed +
+      (total (λ t. t.lost) new.workers.items + total (λ t. t.held) new.workers.items)
       + (total (λ t. t.executed) old.workers.items + total (λ t. t.repeated) old.workers.items)
-      ≡ (total (λ t. t.executed) new.workers.items + total (λ t. t.repeated) new.workers.items) + (total (λ t. t.lost) old.workers.items + total (λ t. t.held) old.workers.items)
+      ≡ (total (λ t. t.executed) new.workers.items + total (λ t. t.repeated) new.workers.items) +
+      (total (λ t. t.lost) old.workers.items + total (λ t. t.held) old.workers.items)
   pub caller : ClaimedMore old.caller.tally (callers_claims closed) new.caller.tally
   pub goes_on : sum_by ends new.workers.items ≤ sum_by ends old.workers.items
   pub waits : 0 < sum_by ends new.workers.items → Each (λ step. WaitsForWorkers (traced step)) closed

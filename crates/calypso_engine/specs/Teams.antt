@@ -45,7 +45,8 @@ pub record Gathered (job : StepJob) (image : Paged) (m : Module) (history : Hist
   pub alone : NoCaller history
   pub claims : claims_by is_worker history + total (λ t. t.claims) before ≡ total (λ t. t.claims) after
   pub arrivals :
-      count_by is_current history + (total (λ t. t.lost) after + total (λ t. t.held) after) + (total (λ t. t.executed) before + total (λ t. t.repeated) before)
+      count_by is_current history + (total (λ t. t.lost) after + total (λ t. t.held) after) +
+      (total (λ t. t.executed) before + total (λ t. t.repeated) before)
       ≡ (total (λ t. t.executed) after + total (λ t. t.repeated) after) + (total (λ t. t.lost) before + total (λ t. t.held) before)
   pub waits : 0 < sum_by ends after → IsComplete job history ⊎ (claims_by is_worker history ≡ claim_bound (size_of job))
   pub each : AllZip (IsLeft job.number image m) before after

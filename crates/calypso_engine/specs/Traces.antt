@@ -74,7 +74,8 @@ entries_in test trace = sum_by (λ step. count_by test step.history) trace
 
 -- the caller has an entry in the step only where the workers have made all claims that the step takes
 abbrev pub WaitsForWorkers : TracedStep → Type 0
-WaitsForWorkers step = 0 < claims_by is_caller step.history + arrivals_by is_caller step.history → claims_by is_worker step.history ≡ claim_bound step.size
+WaitsForWorkers step = 0 < claims_by is_caller step.history + arrivals_by is_caller step.history
+    → claims_by is_worker step.history ≡ claim_bound step.size
 
 -- how the histories of a run and what the workers and the caller say of it agree
 pub record Agree (trace : Trace) (tallies : Tallies) : Type 0 where

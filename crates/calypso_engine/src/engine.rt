@@ -49,7 +49,8 @@ fn run_on<F: Files, S: Sink, G: Gate, R: Threads + Wait + Sync>(
 ) -> Result<RunEnd, RunError>
     requires ready { IsReady code.now options.now standing.old team.old }
     requires created { IfSome options.now.log (λ name. F.created files.old name.now) }
-    ensures comes { Comes options.now (rest_of code.now options.now.fuel standing.old) team.old team.new (outside_of (S.written out.old) (F.holds files.old)) (outside_of (S.written out.new) (F.holds files.new)) result }
+    ensures comes { Comes options.now (rest_of code.now options.now.fuel standing.old) team.old team.new
+        (outside_of (S.written out.old) (F.holds files.old)) (outside_of (S.written out.new) (F.holds files.new)) result }
     ensures tallies { IfOk result (λ _. HasTallies options.now.script.now options.now.workers team.new) }
     ensures created { StaysTrue (F.created files.old) (F.created files.new) }
     ensures files_later { F.faults files.old ≤ F.faults files.new }
@@ -114,11 +115,16 @@ pub fn run<F: Files, S: Sink, G: Gate, R: Threads + Wait + Sync>(
     requires most { options.now.frames ≤ 4096 }
     requires created { IfSome options.now.log (λ name. F.created files.old name.now) }
     ensures end { IfOk result (λ report. report.ended ≡ (machine_meaning code.now options.now.fuel).ending) }
-    ensures whole { IfOk result (λ _. Appends (S.written out.old) (S.written out.new) (text_of options.now.steps (machine_meaning code.now options.now.fuel).events)) }
-    ensures told { IfOk result (λ report. TellsRun (steps_of (machine_main code.now options.now.fuel)) options.now report.tallies (F.holds files.old) (F.holds files.new)) }
-    ensures prefix { OnErr result (AppendsPrefix (S.written out.old) (S.written out.new) (text_of options.now.steps (machine_meaning code.now options.now.fuel).events)) }
-    ensures front { OnErr result (LogsFrontOf (steps_of (machine_main code.now options.now.fuel)) (log_of options.now) (F.holds files.old) (F.holds files.new)) }
-    ensures between { IsErrOf result error.NoMemory → StoppedBetween options.now (machine_main code.now options.now.fuel) (outside_of (S.written out.old) (F.holds files.old)) (outside_of (S.written out.new) (F.holds files.new)) }
+    ensures whole { IfOk result (λ _. Appends (S.written out.old) (S.written out.new)
+        (text_of options.now.steps (machine_meaning code.now options.now.fuel).events)) }
+    ensures told { IfOk result (λ report. TellsRun (steps_of (machine_main code.now options.now.fuel)) options.now report.tallies
+        (F.holds files.old) (F.holds files.new)) }
+    ensures prefix { OnErr result (AppendsPrefix (S.written out.old) (S.written out.new)
+        (text_of options.now.steps (machine_meaning code.now options.now.fuel).events)) }
+    ensures front { OnErr result (LogsFrontOf (steps_of (machine_main code.now options.now.fuel)) (log_of options.now) (F.holds files.old)
+        (F.holds files.new)) }
+    ensures between { IsErrOf result error.NoMemory → StoppedBetween options.now (machine_main code.now options.now.fuel)
+        (outside_of (S.written out.old) (F.holds files.old)) (outside_of (S.written out.new) (F.holds files.new)) }
     ensures created { StaysTrue (F.created files.old) (F.created files.new) }
     ensures files_later { F.faults files.old ≤ F.faults files.new }
     ensures out_later { S.faults out.old ≤ S.faults out.new }

@@ -64,7 +64,8 @@ fn step<F: Files, S: Sink, G: Gate, R: Threads + Wait + Sync>(
     requires told { TellsStep code.now first_block blocks total standing.old.machine }
     requires may { MayStep code.now options.now first_block standing.old team.old }
     requires created { IfSome options.now.log (λ name. F.created files.old name.now) }
-    ensures goes { Goes code.now options.now (opening_here code.now options.now.fuel first_block standing.old) standing.new team.old team.new (outside_of (S.written out.old) (F.holds files.old)) (outside_of (S.written out.new) (F.holds files.new)) result }
+    ensures goes { Goes code.now options.now (opening_here code.now options.now.fuel first_block standing.old) standing.new team.old
+        team.new (outside_of (S.written out.old) (F.holds files.old)) (outside_of (S.written out.new) (F.holds files.new)) result }
     ensures behind { result ≡ Ok None → IsBehind code.now options.now standing.old standing.new team.new }
     ensures tallies { IfOk result (λ _. HasTallies options.now.script.now options.now.workers team.new) }
     ensures created { StaysTrue (F.created files.old) (F.created files.new) }
@@ -124,9 +125,11 @@ pub fn event<F: Files, S: Sink, G: Gate, R: Threads + Wait + Sync>(
 ) -> Result<Option<RunEnd>, RunError>
     requires ready { IsReady code.now options.now standing.old team.old }
     requires created { IfSome options.now.log (λ name. F.created files.old name.now) }
-    ensures goes { Goes code.now options.now (rest_of code.now options.now.fuel standing.old) standing.new team.old team.new (outside_of (S.written out.old) (F.holds files.old)) (outside_of (S.written out.new) (F.holds files.new)) result }
+    ensures goes { Goes code.now options.now (rest_of code.now options.now.fuel standing.old) standing.new team.old team.new
+        (outside_of (S.written out.old) (F.holds files.old)) (outside_of (S.written out.new) (F.holds files.new)) result }
     ensures ready { result ≡ Ok None → IsReady code.now options.now standing.new team.new }
-    ensures falls { result ≡ Ok None → most_steps code.now (main_state code.now standing.new.machine []) < most_steps code.now (main_state code.now standing.old.machine []) }
+    ensures falls { result ≡ Ok None → most_steps code.now (main_state code.now standing.new.machine []) < most_steps code.now
+        (main_state code.now standing.old.machine []) }
     ensures tallies { IfOk result (λ _. HasTallies options.now.script.now options.now.workers team.new) }
     ensures created { StaysTrue (F.created files.old) (F.created files.new) }
     ensures files_later { F.faults files.old ≤ F.faults files.new }

@@ -74,8 +74,10 @@ pub fn print<S: Sink>(
     out: &mut S,
 ) -> Result<(), RunError>
     requires { items ≡ length machine.now.items }
-    ensures ok { OnOk result (Appends (S.written out.old) (S.written out.new) (printing.line_of (map (piece_of code.now) machine.now.items))) }
-    ensures err { OnErr result (AppendsPrefix (S.written out.old) (S.written out.new) (printing.line_of (map (piece_of code.now) machine.now.items))) }
+    ensures ok { OnOk result (Appends (S.written out.old) (S.written out.new)
+        (printing.line_of (map (piece_of code.now) machine.now.items))) }
+    ensures err { OnErr result (AppendsPrefix (S.written out.old) (S.written out.new)
+        (printing.line_of (map (piece_of code.now) machine.now.items))) }
     ensures memory { IsErrOf result error.NoMemory → Appends (S.written out.old) (S.written out.new) [] }
     ensures named { IsErrOf result error.FileFailed → ⊥ }
     ensures later { S.faults out.old ≤ S.faults out.new }

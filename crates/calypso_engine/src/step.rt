@@ -103,7 +103,8 @@ pub fn open_step<G: Gate, R: Threads + Wait + Sync>(
     requires workers { options.now.workers ≤ 32 }
     requires team { IsTeam options.now.script.now options.now.workers steps image.old code.now team.old }
     requires counted { steps < 2 ^ 32 }
-    ensures closed { IfOk result (λ closed. WasClosed (step_job code.now options.now.fuel (steps + 1) image.old.memory first_block widths.now) n team.old team.new image.new.memory closed) }
+    ensures closed { IfOk result (λ closed. WasClosed (step_job code.now options.now.fuel (steps + 1) image.old.memory first_block
+        widths.now) n team.old team.new image.new.memory closed) }
     ensures team { IfOk result (λ _. IsTeam options.now.script.now options.now.workers (steps + 1) image.new code.now team.new) }
     ensures later { IfOk result (λ _. IsLater image.old image.new) }
 {

@@ -126,7 +126,8 @@ impl Team {
     /// Adds what each worker did, and the caller behind them, where there is room.
     pub fn add_tallies(&self, tallies: &mut Vec<WorkerTally>)
         requires { vec_len tallies.old + (length self.now.workers.items + 1) ≤ vec_capacity tallies.old }
-        ensures { tallies.new.items ≡ tallies.old.items ++ (map (λ worker. worker.tally) self.now.workers.items ++ self.now.caller.tally ∷ []) }
+        ensures { tallies.new.items ≡ tallies.old.items ++ (map (λ worker. worker.tally) self.now.workers.items
+            ++ self.now.caller.tally ∷ []) }
     {
         for worker in &self.workers {
             tallies.push_reserved(worker.tally());

@@ -47,8 +47,10 @@ fn log_step<F: Files>(
     files: &mut F,
 ) -> Result<(), Failed>
     requires { IfSome options.now.log (λ name. F.created files.old name.now) }
-    ensures ok { OnOk result (Told (F.holds files.old) (F.holds files.new) (Logs (log_of options.now) (step_log (record { number = step; size = n; history = closed.now.history.items })))) }
-    ensures err { OnErr result (Told (F.holds files.old) (F.holds files.new) (LogsFront (log_of options.now) (step_log (record { number = step; size = n; history = closed.now.history.items })))) }
+    ensures ok { OnOk result (Told (F.holds files.old) (F.holds files.new)
+        (Logs (log_of options.now) (step_log (record { number = step; size = n; history = closed.now.history.items })))) }
+    ensures err { OnErr result (Told (F.holds files.old) (F.holds files.new)
+        (LogsFront (log_of options.now) (step_log (record { number = step; size = n; history = closed.now.history.items })))) }
     ensures created { StaysTrue (F.created files.old) (F.created files.new) }
     ensures named { OnErr result (IsSome options.now.log) }
     ensures cause { HasCause (F.faults files.old) (F.faults files.new) result }
@@ -91,10 +93,14 @@ pub fn tell_step<F: Files, S: Sink>(
 ) -> Result<(), RunError>
     requires created { IfSome options.now.log (λ name. F.created files.old name.now) }
     requires words { IfSome kept.now (λ copy. length copy.memory ≡ length image.now.memory) }
-    ensures log { OnOk result (Told (F.holds files.old) (F.holds files.new) (Logs (log_of options.now) (step_log (record { number = step; size = n; history = closed.now.history.items })))) }
-    ensures out { OnOk result (Appends (S.written out.old) (S.written out.new) (lines_of_end closed.now.result kept.now step image.now.memory)) }
-    ensures log_front { OnErr result (Told (F.holds files.old) (F.holds files.new) (LogsFront (log_of options.now) (step_log (record { number = step; size = n; history = closed.now.history.items })))) }
-    ensures out_front { OnErr result (AppendsPrefix (S.written out.old) (S.written out.new) (lines_of_end closed.now.result kept.now step image.now.memory)) }
+    ensures log { OnOk result (Told (F.holds files.old) (F.holds files.new)
+        (Logs (log_of options.now) (step_log (record { number = step; size = n; history = closed.now.history.items })))) }
+    ensures out { OnOk result (Appends (S.written out.old) (S.written out.new)
+        (lines_of_end closed.now.result kept.now step image.now.memory)) }
+    ensures log_front { OnErr result (Told (F.holds files.old) (F.holds files.new)
+        (LogsFront (log_of options.now) (step_log (record { number = step; size = n; history = closed.now.history.items })))) }
+    ensures out_front { OnErr result (AppendsPrefix (S.written out.old) (S.written out.new)
+        (lines_of_end closed.now.result kept.now step image.now.memory)) }
     ensures no_memory { IsErrOf result error.NoMemory → ⊥ }
     ensures created { StaysTrue (F.created files.old) (F.created files.new) }
     ensures files_later { F.faults files.old ≤ F.faults files.new }

@@ -12,7 +12,8 @@ use Rattle.bytecode.specs.declared.module.Module.{Module}
 use Rattle.code_verify.specs.Kinds.{Kinds, after}
 use Rattle.code_verify.specs.Rules.{Stands, Taken, KindsAt, Comes, IsAhead, IsInRange, leads, LeavesNothing, GoesBack, IsRight, IsSound, HasShape}
 use Rattle.code_verify.specs.Walk.{◌>>=◌, Table, same_kinds, agreed, expects, looped, ended, goes_on, kinds_in, opened, walk_at, walk, unknown}
-use Rattle.code_verify.proofs.Walking.{At, Told, put_told, same_itself, same_place, not_past, some_is, Opened, opens_at, Known, first_known, walk_known, all_known, AreFrom, head_stands, tail_from, Back}
+use Rattle.code_verify.proofs.Walking.{At, Told, put_told, same_itself, same_place, not_past, some_is, Opened, opens_at, Known, first_known, walk_known, all_known, AreFrom, head_stands, tail_from}
+use Rattle.code_verify.proofs.Walking.{Back}
 use Rattle.code_verify.proofs.Unique.{leads_ahead}
 
 -- the kinds that a table knows, and none where it knows none
@@ -89,7 +90,8 @@ some_of (Some x) h = (x, refl)
 some_of None h = absurd cc
 
 -- where the other rules hold and the walk comes to its end, the code is sound
-pub walked_sound : (m : Module) (c : Code) → ((place : ℕ) (x : Instr) → Stands c place x → IsInRange m c x × IsAhead place x) → HasShape c → IsSome (walk m c 0 c.instrs (unknown (length c.instrs))) → IsSound m c
+pub walked_sound : (m : Module) (c : Code) → ((place : ℕ) (x : Instr) → Stands c place x → IsInRange m c x × IsAhead place x) → HasShape c → IsSome (walk m c 0 c.instrs (unknown (length c.instrs)))
+    → IsSound m c
 walked_sound m c rules shape some =
     let t = some_of (walk m c 0 c.instrs (unknown (length c.instrs))) some in
     let known : Known m c (0 + length c.instrs) t.0 = all_known m c c.instrs 0 (unknown (length c.instrs)) t.0 (from_the_start m c) (first_known m c) t.1 in
@@ -150,7 +152,8 @@ module _ (m : Module) (c : Code) (sound : IsSound m c) where
 
   -- wherever the instruction leads, the code has these kinds; they go on
   goes : (x : Instr) (place : ℕ) (ks rest : Kinds) (t : Table) → length t ≡ length c.instrs → Agrees t → after m c x ks ≡ Some rest → LeavesNothing x rest
-      → ((to : ℕ) → IsTrue (leads x place to) → KindsAt sound.taken to rest) → GoesBack sound.taken x ks → IsAhead place x → ((q : ℕ) → q ≤ place → (k : Kinds) × At t q k) → Goes (goes_on x place rest t) t
+      → ((to : ℕ) → IsTrue (leads x place to) → KindsAt sound.taken to rest) → GoesBack sound.taken x ks → IsAhead place x → ((q : ℕ) → q ≤ place → (k : Kinds) × At t q k)
+      → Goes (goes_on x place rest t) t
   goes (i.Jump to) place ks rest t long agrees e leaves comes back ahead told = expects_goes t to rest long agrees (comes to (same_place to))
   goes (i.Branch to) place ks rest t long agrees e leaves comes back ahead told =
       then_goes t (expects t to rest) (λ later. expects later (place + 1) rest) (expects_goes t to rest long agrees (comes to (ap (λ (b : Bool). cond b true (place + 1 == to)) (same_place to))))
@@ -192,7 +195,8 @@ module _ (m : Module) (c : Code) (sound : IsSound m c) where
       opened_agrees : Agrees v
       opened_agrees q k at = elim (o.only q k at) [
         | inl before ↦ agrees q k before
-        | inr new ↦ subst (λ (n : ℕ). KindsAt sound.taken n k) (sym new.0) (subst (λ (l : Kinds). KindsAt sound.taken p l) (sym new.1) (sound.is_taken.alone p (slice_get_within c.instrs p x st) (none_comes new.2)))
+        | inr new ↦ subst (λ (n : ℕ). KindsAt sound.taken n k) (sym new.0) (subst (λ (l : Kinds). KindsAt sound.taken p l) (sym new.1)
+            (sound.is_taken.alone p (slice_get_within c.instrs p x st) (none_comes new.2)))
       ]
 
       here : KindsAt sound.taken p ks
@@ -206,7 +210,8 @@ module _ (m : Module) (c : Code) (sound : IsSound m c) where
 
       with_kinds : IsRight m c sound.taken p x ks → Goes (walk_at m c p x t) t
       with_kinds r =
-          let comes : (to : ℕ) → IsTrue (leads x p to) → KindsAt sound.taken to r.finds.0 = λ to led. sound.is_taken.comes to r.finds.0 (record { place = p; instr = x; here = ks; stands = st; taken_with = here; leads_on = led; leaves = r.finds.1 }) in
+          let comes : (to : ℕ) → IsTrue (leads x p to) → KindsAt sound.taken to r.finds.0 = λ to led. sound.is_taken.comes to r.finds.0
+          (record { place = p; instr = x; here = ks; stands = st; taken_with = here; leads_on = led; leaves = r.finds.1 }) in
           let g = goes x p ks r.finds.0 v (o.long ∙ known.long) opened_agrees r.finds.1 r.finds.2 comes r.back r.ahead told in
           let short : ltb 1024 (length ks) ≡ false = le-ltb 1024 (length ks) r.short in
           record {

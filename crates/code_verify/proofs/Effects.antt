@@ -25,11 +25,14 @@ first_there a b ks later e = below_then a b ks ∙ ap (λ (o : Option Kinds). o 
 pub first_missing : (a b ks : Kinds) → below a ks ≡ None → below (a ++ b) ks ≡ None
 first_missing a b ks e = below_then a b ks ∙ ap (λ (o : Option Kinds). o >>= (λ rest. below b rest)) e
 
-pub item_there : (items others : List PrintItem) (x : PrintItem) (ks later : Kinds) → items ≡ others ++ x ∷ [] → below (item_kinds x) ks ≡ Some later → below (items_kinds items) ks ≡ below (items_kinds others) later
-item_there items others x ks later e h = ap (λ (l : List PrintItem). below (items_kinds l) ks) e ∙ ap (λ (l : Kinds). below l ks) (items_last others x) ∙ first_there (item_kinds x) (items_kinds others) ks later h
+pub item_there : (items others : List PrintItem) (x : PrintItem) (ks later : Kinds) → items ≡ others ++ x ∷ [] → below (item_kinds x) ks ≡ Some later
+    → below (items_kinds items) ks ≡ below (items_kinds others) later
+item_there items others x ks later e h = ap (λ (l : List PrintItem). below (items_kinds l) ks) e ∙ ap (λ (l : Kinds). below l ks) (items_last others x)
+    ∙ first_there (item_kinds x) (items_kinds others) ks later h
 
 pub item_missing : (items others : List PrintItem) (x : PrintItem) (ks : Kinds) → items ≡ others ++ x ∷ [] → below (item_kinds x) ks ≡ None → below (items_kinds items) ks ≡ None
-item_missing items others x ks e h = ap (λ (l : List PrintItem). below (items_kinds l) ks) e ∙ ap (λ (l : Kinds). below l ks) (items_last others x) ∙ first_missing (item_kinds x) (items_kinds others) ks h
+item_missing items others x ks e h = ap (λ (l : List PrintItem). below (items_kinds l) ks) e ∙ ap (λ (l : Kinds). below l ks) (items_last others x)
+    ∙ first_missing (item_kinds x) (items_kinds others) ks h
 
 pub int_there : (count i : ℕ) (ks later : Kinds) → i < count → below (ty.Int ∷ []) ks ≡ Some later → below (ints (count - i)) ks ≡ below (ints (count - (i + 1))) later
 int_there count i ks later lt e =

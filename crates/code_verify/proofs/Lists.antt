@@ -85,7 +85,8 @@ rises least (n ∷ rest) up (suc i) (suc j) le lt = rises (n + 1) rest up.1 i j 
 -- the first of ascending tally words that is not below the range is in it, or none is
 module _ (tallies : List ℕ) (up : AreAscending tallies) (b n : ℕ) (r : Result ℕ ℕ) (found : IsBinarySearchResult (λ y. nat_cmp y b) tallies r) where
   abbrev Said : Result ℕ ℕ → Type 0
-  Said r = MatchResult r (λ i. (i < length tallies) × (get_or tallies i 0 ≡ b)) (λ i. (i ≤ length tallies) × ((k : ℕ) → k < i → get_or tallies k 0 < b) × ((k : ℕ) → i ≤ k → k < length tallies → b < get_or tallies k 0))
+  Said r = MatchResult r (λ i. (i < length tallies) × (get_or tallies i 0 ≡ b)) (λ i. (i ≤ length tallies) × ((k : ℕ) → k < i → get_or tallies k 0 < b)
+      × ((k : ℕ) → i ≤ k → k < length tallies → b < get_or tallies k 0))
 
   said : Said r
   said = searched tallies b r found (rises 0 tallies up)

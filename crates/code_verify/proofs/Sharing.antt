@@ -30,11 +30,13 @@ from_more : (stacks : List Kinds) (nodes : List Node) (n : Node) → stacks_from
 from_more stacks [] n = refl
 from_more stacks (x ∷ nodes) n = from_more (stacks ++ stack_of stacks x ∷ []) nodes n
 
-from_set : (stacks : List Kinds) (nodes : List Node) (p : ℕ) (n later : Node) → slice_get nodes p ≡ Some n → later.top ≡ n.top → later.below ≡ n.below → stacks_from stacks (slice_set nodes p later) ≡ stacks_from stacks nodes
+from_set : (stacks : List Kinds) (nodes : List Node) (p : ℕ) (n later : Node) → slice_get nodes p ≡ Some n → later.top ≡ n.top → later.below ≡ n.below
+    → stacks_from stacks (slice_set nodes p later) ≡ stacks_from stacks nodes
 from_set stacks [] p n later e top below = refl
 from_set stacks (x ∷ nodes) zero n later e top below =
     let same : x ≡ n = cc in
-    let stack : stack_of stacks later ≡ stack_of stacks x = ap (λ (o : Option Ty). on_top o (stack_at stacks later.below)) top ∙ ap (λ (b : ℕ). on_top n.top (stack_at stacks b)) below ∙ ap (λ (y : Node). stack_of stacks y) (sym same) in
+    let stack : stack_of stacks later ≡ stack_of stacks x = ap (λ (o : Option Ty). on_top o (stack_at stacks later.below)) top ∙ ap (λ (b : ℕ). on_top n.top (stack_at stacks b)) below
+    ∙ ap (λ (y : Node). stack_of stacks y) (sym same) in
     ap (λ (ks : Kinds). stacks_from (stacks ++ ks ∷ []) nodes) stack
 from_set stacks (x ∷ nodes) (suc p) n later e top below = from_set (stacks ++ stack_of stacks x ∷ []) nodes p n later e top below
 
@@ -191,7 +193,8 @@ module _ (nodes : List Node) (tree : IsTree nodes) (at : ℕ) (n : Node) (there 
   names = linked n k (length nodes)
 
   names_stack : stack_of later names ≡ stack_of old n
-  names_stack = ap (λ (o : Option Ty). on_top o (stack_at later names.below)) (linked_top n k (length nodes)) ∙ ap (λ (b : ℕ). on_top n.top (stack_at later b)) (linked_below n k (length nodes)) ∙ stack_more old new n fits_n.below
+  names_stack = ap (λ (o : Option Ty). on_top o (stack_at later names.below)) (linked_top n k (length nodes)) ∙ ap (λ (b : ℕ). on_top n.top (stack_at later b)) (linked_below n k (length nodes))
+      ∙ stack_more old new n fits_n.below
 
   names_over : (j : Ty) → Finds later (j ∷ stack_of old n) (above names j)
   names_over j = by_kinds k refl j
@@ -205,7 +208,8 @@ module _ (nodes : List Node) (tree : IsTree nodes) (at : ℕ) (n : Node) (there 
       by_kinds : (i : Ty) → k ≡ i → (j : Ty) → Finds later (j ∷ stack_of old n) (above (linked n i (length nodes)) j)
       by_kinds ty.Int e ty.Int = found_at later (ty.Int ∷ stack_of old n) (length nodes) positive (subst (λ (i : Ty). slice_get later (length nodes) ≡ Some (i ∷ stack_of old n)) e here)
       by_kinds ty.Bool e ty.Bool = found_at later (ty.Bool ∷ stack_of old n) (length nodes) positive (subst (λ (i : Ty). slice_get later (length nodes) ≡ Some (i ∷ stack_of old n)) e here)
-      by_kinds ty.Int e ty.Bool = find_more old new (ty.Bool ∷ stack_of old n) n.truths (fits_n.over ty.Bool) (λ same. let other : ty.Bool ≡ k = cc in let no : ty.Bool ≡ ty.Int = other ∙ e in absurd cc)
+      by_kinds ty.Int e ty.Bool = find_more old new (ty.Bool ∷ stack_of old n) n.truths (fits_n.over ty.Bool)
+          (λ same. let other : ty.Bool ≡ k = cc in let no : ty.Bool ≡ ty.Int = other ∙ e in absurd cc)
       by_kinds ty.Bool e ty.Int = find_more old new (ty.Int ∷ stack_of old n) n.ints (fits_n.over ty.Int) (λ same. let other : ty.Int ≡ k = cc in let no : ty.Int ≡ ty.Bool = other ∙ e in absurd cc)
 
   names_fits : Fits later at names
@@ -230,7 +234,8 @@ module _ (nodes : List Node) (tree : IsTree nodes) (at : ℕ) (n : Node) (there 
   before_added = get_before nodes added at (slice_get_within nodes at n there) ∙ there
 
   pub grown_stacks : stacks_of grown ≡ old ++ new ∷ []
-  grown_stacks = from_set [] (nodes ++ added ∷ []) at n names before_added (linked_top n k (length nodes)) (linked_below n k (length nodes)) ∙ from_more [] nodes added ∙ ap (λ (ks : Kinds). old ++ (k ∷ ks) ∷ []) at_stack
+  grown_stacks = from_set [] (nodes ++ added ∷ []) at n names before_added (linked_top n k (length nodes)) (linked_below n k (length nodes)) ∙ from_more [] nodes added
+      ∙ ap (λ (ks : Kinds). old ++ (k ∷ ks) ∷ []) at_stack
 
   grown_fits : (p : ℕ) (x : Node) → slice_get grown p ≡ Some x → Fits later p x
   grown_fits p x e = elim (either_place p at) [
@@ -332,16 +337,19 @@ module _ {E : Type 0} (r : Result ℕ E) (nodes grown : List Node) (stacks : Lis
   grown_keeps = by_result r
     where
       by_result : (r : Result ℕ E) → OnOk r (stacks_of grown ≡ stacks_of nodes ++ (k ∷ stack_of (stacks_of nodes) n) ∷ []) → OnErr r (grown ≡ nodes) → Keeps stacks (stacks_of grown)
-      by_result (Ok p) added_one same = subst (λ (l : List Kinds). Keeps l (stacks_of grown)) is (subst (λ (l : List Kinds). Keeps (stacks_of nodes) l) (sym added_one) (more_keeps (stacks_of nodes) (k ∷ stack_of (stacks_of nodes) n)))
+      by_result (Ok p) added_one same = subst (λ (l : List Kinds). Keeps l (stacks_of grown)) is
+          (subst (λ (l : List Kinds). Keeps (stacks_of nodes) l) (sym added_one) (more_keeps (stacks_of nodes) (k ∷ stack_of (stacks_of nodes) n)))
       by_result (Err e) none_added same = subst (λ (l : List Kinds). Keeps stacks l) (sym (ap stacks_of same ∙ is)) (keeps_all stacks)
 
-  pub grown_place : (p : ℕ) → IsTree nodes → slice_get nodes p ≡ Some n → OnOk r (stacks_of grown ≡ stacks_of nodes ++ (k ∷ stack_of (stacks_of nodes) n) ∷ []) → IfOk r (λ q. q ≡ length nodes) → IfOk r (λ q. (q < length (stacks_of grown)) × (stack_at (stacks_of grown) q ≡ k ∷ stack_at stacks p))
+  pub grown_place : (p : ℕ) → IsTree nodes → slice_get nodes p ≡ Some n → OnOk r (stacks_of grown ≡ stacks_of nodes ++ (k ∷ stack_of (stacks_of nodes) n) ∷ []) → IfOk r (λ q. q ≡ length nodes)
+      → IfOk r (λ q. (q < length (stacks_of grown)) × (stack_at (stacks_of grown) q ≡ k ∷ stack_at stacks p))
   grown_place p tree at = by_result r
     where
       tail : k ∷ stack_of (stacks_of nodes) n ≡ k ∷ stack_at stacks p
       tail = ap (λ (l : List Kinds). k ∷ stack_of l n) is ∙ ap (λ (ks : Kinds). k ∷ ks) (sym (node_at nodes stacks is p tree n at))
 
-      by_result : (r : Result ℕ E) → OnOk r (stacks_of grown ≡ stacks_of nodes ++ (k ∷ stack_of (stacks_of nodes) n) ∷ []) → IfOk r (λ q. q ≡ length nodes) → IfOk r (λ q. (q < length (stacks_of grown)) × (stack_at (stacks_of grown) q ≡ k ∷ stack_at stacks p))
+      by_result : (r : Result ℕ E) → OnOk r (stacks_of grown ≡ stacks_of nodes ++ (k ∷ stack_of (stacks_of nodes) n) ∷ []) → IfOk r (λ q. q ≡ length nodes)
+          → IfOk r (λ q. (q < length (stacks_of grown)) × (stack_at (stacks_of grown) q ≡ k ∷ stack_at stacks p))
       by_result (Ok q) added_one last =
           let there = more_last (stacks_of nodes) (k ∷ stack_of (stacks_of nodes) n) q (last ∙ sym (stacks_long nodes)) in
           subst (λ (l : List Kinds). (q < length l) × (stack_at l q ≡ k ∷ stack_at stacks p)) (sym added_one) (there.0, there.1 ∙ tail)
@@ -365,7 +373,8 @@ pub known_none : (stacks : List Kinds) (count : ℕ) → known_in stacks (replic
 known_none stacks zero = refl
 known_none stacks (suc count) = ap (λ (t : Table). None ∷ t) (known_none stacks count)
 
-pub known_kept : (before after : List Kinds) → Keeps before after → (places : List (Option ℕ)) → ((q p : ℕ) → slice_get places q ≡ Some (Some p) → p < length before) → known_in after places ≡ known_in before places
+pub known_kept : (before after : List Kinds) → Keeps before after → (places : List (Option ℕ)) → ((q p : ℕ) → slice_get places q ≡ Some (Some p) → p < length before)
+    → known_in after places ≡ known_in before places
 known_kept before after keeps [] inside = refl
 known_kept before after keeps (None ∷ places) inside = ap (λ (t : Table). None ∷ t) (known_kept before after keeps places (λ q p e. inside (suc q) p e))
 known_kept before after keeps (Some h ∷ places) inside =
@@ -400,8 +409,10 @@ module _ (stacks : List Kinds) (hand : ℕ) (places : List (Option ℕ)) (held :
   pub expects_known : (b : Bool) (p : ℕ) → slice_get places q ≡ Some (Some p) → IsTrue b ↔ (stack_at stacks p ≡ stack_at stacks hand) → Changes b held.known (expects held.known q held.hand)
   expects_known b p e same = subst (λ (h : Held). Changes b h.known (expects h.known q h.hand)) is (expects_by b table q (stack_at stacks p) (stack_at stacks hand) (at_known (Some (Some p)) e) same)
 
-  pub looped_known : (b : Bool) (p : ℕ) → slice_get places q ≡ Some (Some p) → IsTrue b ↔ (stack_at stacks p ≡ stack_at stacks hand) → Changes b held.known (looped held.known held.hand (slice_get held.known q))
-  looped_known b p e same = subst (λ (h : Held). Changes b h.known (looped h.known h.hand (slice_get h.known q))) is (looped_by b table q (stack_at stacks p) (stack_at stacks hand) (at_known (Some (Some p)) e) same)
+  pub looped_known : (b : Bool) (p : ℕ) → slice_get places q ≡ Some (Some p) → IsTrue b ↔ (stack_at stacks p ≡ stack_at stacks hand)
+      → Changes b held.known (looped held.known held.hand (slice_get held.known q))
+  looped_known b p e same = subst (λ (h : Held). Changes b h.known (looped h.known h.hand (slice_get h.known q))) is
+      (looped_by b table q (stack_at stacks p) (stack_at stacks hand) (at_known (Some (Some p)) e) same)
 
   pub looped_new : slice_get places q ≡ Some None → looped held.known held.hand (slice_get held.known q) ≡ None
   looped_new e = subst (λ (h : Held). looped h.known h.hand (slice_get h.known q) ≡ None) is (ap (looped table (stack_at stacks hand)) (at_known (Some None) e))
@@ -410,7 +421,9 @@ module _ (stacks : List Kinds) (hand : ℕ) (places : List (Option ℕ)) (held :
   looped_past e = subst (λ (h : Held). looped h.known h.hand (slice_get h.known q) ≡ None) is (ap (looped table (stack_at stacks hand)) (at_known None e))
 
   pub expects_new : slice_get places q ≡ Some None → expects held.known q held.hand ≡ Some (known_in stacks (slice_set places q (Some hand)))
-  expects_new e = subst (λ (h : Held). expects h.known q h.hand ≡ Some (known_in stacks (slice_set places q (Some hand)))) is (ap (agreed table q (stack_at stacks hand)) (at_known (Some None) e) ∙ ap (λ (t : Table). Some t) (sym (known_set stacks places q hand)))
+  expects_new e = subst (λ (h : Held). expects h.known q h.hand ≡ Some (known_in stacks (slice_set places q (Some hand)))) is
+      (ap (agreed table q (stack_at stacks hand)) (at_known (Some None) e) ∙ ap (λ (t : Table). Some t) (sym (known_set stacks places q hand)))
 
   pub opens_new : (next : ℕ) → stack_at stacks next ≡ [] → slice_get places q ≡ Some None → known_in stacks (slice_set places q (Some next)) ≡ opened held.known q (slice_get held.known q)
-  opens_new next none e = subst (λ (h : Held). known_in stacks (slice_set places q (Some next)) ≡ opened h.known q (slice_get h.known q)) is (known_set stacks places q next ∙ ap (λ (ks : Kinds). slice_set table q (Some ks)) none ∙ sym (ap (opened table q) (at_known (Some None) e)))
+  opens_new next none e = subst (λ (h : Held). known_in stacks (slice_set places q (Some next)) ≡ opened h.known q (slice_get h.known q)) is
+      (known_set stacks places q next ∙ ap (λ (ks : Kinds). slice_set table q (Some ks)) none ∙ sym (ap (opened table q) (at_known (Some None) e)))

@@ -28,7 +28,8 @@ module _ (m : Module) (c : Code) (aheads : (place : ℕ) (x : Instr) → slice_g
   abbrev Before : Taken → ℕ → ℕ → Type 0
   Before taken to n = (ks : Kinds) × (x : Comes m c taken to ks) × (x.place < n)
 
-  one_place : (taken : Taken) (to place : ℕ) (x : Option Instr) (here : Option Kinds) → slice_get c.instrs place ≡ x → slice_get taken place ≡ here → Before taken to (place + 1) ⊎ ((ks : Kinds) (y : Comes m c taken to ks) → y.place ≡ place → ⊥)
+  one_place : (taken : Taken) (to place : ℕ) (x : Option Instr) (here : Option Kinds) → slice_get c.instrs place ≡ x → slice_get taken place ≡ here
+      → Before taken to (place + 1) ⊎ ((ks : Kinds) (y : Comes m c taken to ks) → y.place ≡ place → ⊥)
   one_place taken to place None here e f = inr (λ ks y p. let stands : slice_get c.instrs place ≡ Some y.instr = subst (λ (n : ℕ). slice_get c.instrs n ≡ Some y.instr) p y.stands in cc)
   one_place taken to place (Some x) None e f = inr (λ ks y p. let with : KindsAt taken place y.here = subst (λ (n : ℕ). KindsAt taken n y.here) p y.taken_with in cc)
   one_place taken to place (Some x) (Some here) e f = tested (leads x place to) (after m c x here) refl refl
@@ -71,7 +72,8 @@ module _ (m : Module) (c : Code) (aheads : (place : ℕ) (x : Instr) → slice_g
         | inl b ↦ ok.comes to b.0 b.1 ∙ sym (ok'.comes to b.0 (moved t u to b.0 agree b.1))
         | inr none ↦
             ok.alone to lt (λ ks y. none ks y (leads_ahead y.instr y.place to (aheads y.place y.instr y.stands) y.leads_on))
-            ∙ sym (ok'.alone to lt (λ ks y. let y' = moved u t to ks (λ p less. sym (agree p less)) y in none ks y' (leads_ahead y'.instr y'.place to (aheads y'.place y'.instr y'.stands) y'.leads_on)))
+            ∙ sym (ok'.alone to lt (λ ks y. let y' = moved u t to ks (λ p less. sym (agree p less)) y in none ks y'
+            (leads_ahead y'.instr y'.place to (aheads y'.place y'.instr y'.stands) y'.leads_on)))
       ]
 
   -- by the places in order

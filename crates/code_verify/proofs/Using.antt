@@ -61,7 +61,8 @@ module _ (m : Module) (backwards : CallBackwards m) (uses : List Bool) (tells : 
         | inr ge ↦
             let long = length-append uses (used ∷ []) in
             let same : length uses ≡ f = omega (arith, lt, ge, long) in
-            subst (λ (n : ℕ). (slice_get (uses ++ used ∷ []) n ≡ Some true) ↔ UsesTally m n) same (subst (λ (o : Option Bool). (o ≡ Some true) ↔ UsesTally m (length uses)) (sym (get_last uses used)) last)
+            subst (λ (n : ℕ). (slice_get (uses ++ used ∷ []) n ≡ Some true) ↔ UsesTally m n) same
+            (subst (λ (o : Option Bool). (o ≡ Some true) ↔ UsesTally m (length uses)) (sym (get_last uses used)) last)
       ]
 
 pub all_told : (m : Module) (uses : List Bool) → length uses ≤ length m.functions → slice_get m.functions (length uses) ≡ None → TellsUses m uses (length uses) → TellsUses m uses (length m.functions)

@@ -1,5 +1,6 @@
 -- A walk through a code comes to its end exactly where the code has kinds for each place.
-use Rattle.std.proofs.Common.{◌≡◌, ◌≢◌, ℕ, zero, suc, ◌+◌, ◌<◌, ◌≤◌, Bool, true, false, cond, ltb, eqb, List, [], ◌∷◌, ◌++◌, length, drop, Option, Some, None, ◌⊎◌, inl, inr, refl, sym, ap, subst, ◌∙◌, arith}
+use Rattle.std.proofs.Common.{◌≡◌, ◌≢◌, ℕ, zero, suc, ◌+◌, ◌<◌, ◌≤◌, Bool, true, false, cond, ltb, eqb, List, [], ◌∷◌, ◌++◌, length, drop, Option, Some, None, ◌⊎◌, inl, inr, refl, sym, ap, subst, ◌∙◌}
+use Rattle.std.proofs.Common.{arith}
 use Rattle.std.specs.Prelude.{slice_get, slice_set, IsTrue, IsSome, ◌==◌, ◌↔◌}
 use Rattle.std.proofs.lemmas.Bool.{eqb-true, eqb-false, eq-eqb, ltb-false, cases_lt}
 use Rattle.std.proofs.lemmas.Option.{slice_get_within}
@@ -157,7 +158,8 @@ pub same_place : (n : ℕ) → (n == n) ≡ true
 same_place n = eq-eqb n n refl
 
 -- an instruction that leads to one place
-one_led : (x : Instr) (place target : ℕ) (rest : Kinds) (t u : Table) → ((to : ℕ) → leads x place to ≡ (target == to)) → LeavesNothing x rest → Back t x rest → Told t u target rest → Led x place rest t u
+one_led : (x : Instr) (place target : ℕ) (rest : Kinds) (t u : Table) → ((to : ℕ) → leads x place to ≡ (target == to)) → LeavesNothing x rest → Back t x rest → Told t u target rest
+    → Led x place rest t u
 one_led x place target rest t u on leaves back told = record {
   long = told.long;
   keeps = told.keeps;
@@ -213,7 +215,8 @@ loop_led target place rest t u e = by_known (slice_get t target) refl e
     by_known (Some (Some known)) p e = tested known (same_kinds known rest) p refl e
 
 return_led : (place : ℕ) (rest : Kinds) (t u : Table) → ended t rest ≡ Some u → Led i.Return place rest t u
-return_led place [] t u e = subst (λ (v : Table). Led i.Return place [] t v) (some_is t u (Some t) refl e) (record { long = refl; keeps = λ q k h. h; there = λ to led. absurd cc; only = λ q k h. inl h; leaves = refl; back = tt })
+return_led place [] t u e = subst (λ (v : Table). Led i.Return place [] t v) (some_is t u (Some t) refl e)
+    (record { long = refl; keeps = λ q k h. h; there = λ to led. absurd cc; only = λ q k h. inl h; leaves = refl; back = tt })
 return_led place (k ∷ rest) t u e = absurd cc
 
 bind_some : {A B : Type 0} (r : Option A) (f : A → Option B) (y : B) → (r >>= f) ≡ Some y → (x : A) × (r ≡ Some x) × (f x ≡ Some y)

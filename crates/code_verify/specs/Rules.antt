@@ -178,7 +178,8 @@ ReadsOrSetsTally m _ = ⊥
 
 -- a function that reads or sets a tally word itself or through its calls
 pub data UsesTally (m : Module) : ℕ → Type 0 where
-  Itself : (f : ℕ) (c : Code) (place : ℕ) (instr : Instr) → slice_get m.functions f ≡ Some c → Stands c place instr → ReadsOrSetsTally m instr → UsesTally m f
+  Itself : (f : ℕ) (c : Code) (place : ℕ) (instr : Instr) → slice_get m.functions f ≡ Some c → Stands c place instr
+      → ReadsOrSetsTally m instr → UsesTally m f
   Through : (f g : ℕ) (c : Code) (place : ℕ) → slice_get m.functions f ≡ Some c → Stands c place (i.Call g) → UsesTally m g → UsesTally m f
 
 -- the instruction neither reads nor sets a tally word, itself or by a call

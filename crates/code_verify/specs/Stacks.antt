@@ -1,6 +1,7 @@
 -- Stacks of kinds that share what lies below, as a tree of nodes. The root is the empty stack.
 -- For the proof of the body: no public clause cites this.
-use Rattle.std.specs.Prelude.{◌≡◌, ℕ, zero, suc, ◌<◌, ◌≤◌, List, [], ◌∷◌, ◌++◌, length, map, Option, Some, None, slice_get, unwrap_or, option_map}
+use Rattle.std.specs.Prelude.{◌≡◌, ℕ, zero, suc, ◌<◌, ◌≤◌, List, [], ◌∷◌, ◌++◌, length, map, Option, Some, None, slice_get, unwrap_or}
+use Rattle.std.specs.Prelude.{option_map}
 use Rattle.cal_terms.specs.declared.types.Ty.{Ty}
 use Rattle.cal_terms.specs.declared.types.Ty.TheVariants.{Int, Bool as Truth}
 use Rattle.code_verify.specs.declared.stacks.Node.{Node}

@@ -11,7 +11,8 @@ use Rattle.bytecode.specs.declared.module.Code.{Code}
 use Rattle.bytecode.specs.declared.module.Module.{Module}
 use Rattle.code_verify.specs.declared.owner.Owner.{Owner}
 use Rattle.code_verify.specs.declared.owner.Owner.TheVariants.{Function, Block, Main}
-use Rattle.code_verify.specs.Rules.{Stands, IsSound, IsWord, IsInRange, IsAhead, IsPlainArray, IsNotMains, CallsNoLater, MayStandInMain, IsTally, UsesTally}
+use Rattle.code_verify.specs.Rules.{Stands, IsSound, IsWord, IsInRange, IsAhead, IsPlainArray, IsNotMains, CallsNoLater, MayStandInMain}
+use Rattle.code_verify.specs.Rules.{IsTally, UsesTally}
 use Rattle.cal_terms.specs.declared.limits.TheConstants.{MOST_WORDS}
 
 -- the instruction may stand in the code of this owner, tally words aside

@@ -128,7 +128,8 @@ impl Stacks {
 
     /// The kind on top of the stack at this place, and the place of the stack below it.
     pub fn split(&self, at: u32) -> Option<(Ty, u32)>
-        ensures { MatchOption result (stack_at self.now at ≡ []) (λ r. (r.1 < length self.now) × (stack_at self.now at ≡ r.0 ∷ stack_at self.now r.1)) }
+        ensures { MatchOption result (stack_at self.now at ≡ [])
+            (λ r. (r.1 < length self.now) × (stack_at self.now at ≡ r.0 ∷ stack_at self.now r.1)) }
     {
         match self.nodes.get(at as usize) {
             None => None,

@@ -1,5 +1,6 @@
 -- What is read of the parts of a line, argument by argument.
-use Rattle.std.proofs.Common.{◌≡◌, ◌∙◌, ℕ, ◌+◌, ◌≤◌, Bool, cond, true, false, refl, sym, ap, ap₂, subst, arith, List, [], ◌∷◌, ◌++◌, Option, Some, None, codes, inl, inr, ◌⊎◌, ◌&&◌, ◌||◌, true≢false, append_assoc, append-nil, le-leb, count_by}
+use Rattle.std.proofs.Common.{◌≡◌, ◌∙◌, ℕ, ◌+◌, ◌≤◌, Bool, cond, true, false, refl, sym, ap, ap₂, subst, arith, List, [], ◌∷◌, ◌++◌, Option, Some, None, codes, inl, inr, ◌⊎◌, ◌&&◌, ◌||◌, true≢false}
+use Rattle.std.proofs.Common.{append_assoc, append-nil, le-leb, count_by}
 use Rattle.std.specs.List.{find, list_any, list_all, flat_map}
 use Rattle.std.specs.Prelude.{option_and_then}
 use Rattle.std.specs.Str.{bytes_eq}
@@ -159,7 +160,8 @@ cond_and false b o = refl
 pub take_is : (v : Verb) (us : List Use) (p : Place) (ps : List Part) → take v us p ps ≡ cond (fits v p (operands_in ps)) (adds us (uses_from p ps)) None
 take_is v us p [] = refl
 take_is v us p (words.operand t ∷ ps) =
-    ap (λ o. cond (has_place v p) o None) (inside (add us (operand p, t)) _ (λ (m : List Use). cond (fits v (next p) (operands_in ps)) (adds m (uses_from (next p) ps)) None) (λ m. take_is v m (next p) ps)
+    ap (λ o. cond (has_place v p) o None) (inside (add us (operand p, t)) _ (λ (m : List Use). cond (fits v (next p) (operands_in ps)) (adds m (uses_from (next p) ps)) None)
+    (λ m. take_is v m (next p) ps)
     ∙ cond_inside (fits v (next p) (operands_in ps)) (add us (operand p, t)) (λ m. adds m (uses_from (next p) ps)))
     ∙ cond_and (has_place v p) (fits v (next p) (operands_in ps)) _
 take_is v us p (words.option s t ∷ ps) =
@@ -211,7 +213,8 @@ pub adds_all : (us U r : List Use) → adds us U ≡ Some r → r ≡ us ++ U
 adds_all us [] r e = sym (ap (λ o. Rattle.std.specs.Option.unwrap_or o r) e) ∙ sym (append-nil us)
 adds_all us (u ∷ U) r e = go (is_used u.0 us) e (λ r2 e2. adds_all (us ++ u ∷ []) U r2 e2)
   where
-    go : (b : Bool) → option_and_then (λ (more : List Use). adds more U) (cond b None (Some (us ++ u ∷ []))) ≡ Some r → ((r2 : List Use) → adds (us ++ u ∷ []) U ≡ Some r2 → r2 ≡ (us ++ u ∷ []) ++ U) → r ≡ us ++ u ∷ U
+    go : (b : Bool) → option_and_then (λ (more : List Use). adds more U) (cond b None (Some (us ++ u ∷ []))) ≡ Some r → ((r2 : List Use) → adds (us ++ u ∷ []) U ≡ Some r2 → r2 ≡ (us ++ u ∷ []) ++ U)
+        → r ≡ us ++ u ∷ U
     go true e2 ih = cc
     go false e2 ih = ih r e2 ∙ append_assoc us (u ∷ []) U
 

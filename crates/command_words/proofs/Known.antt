@@ -1,5 +1,6 @@
 -- The command that the words give is the one that is read from what `clap` found.
-use Rattle.std.proofs.Common.{◌≡◌, ◌∙◌, ℕ, zero, suc, ◌+◌, Bool, cond, true, false, refl, sym, ap, ap₂, subst, arith, List, [], ◌∷◌, take, Option, Some, None, codes, inl, inr, ◌&&◌, ◌||◌, ◌==◌, not, true≢false, nat_lt, is_some}
+use Rattle.std.proofs.Common.{◌≡◌, ◌∙◌, ℕ, zero, suc, ◌+◌, Bool, cond, true, false, refl, sym, ap, ap₂, subst, arith, List, [], ◌∷◌, take, Option, Some, None, codes, inl, inr, ◌&&◌, ◌||◌, ◌==◌, not}
+use Rattle.std.proofs.Common.{true≢false, nat_lt, is_some}
 use Rattle.std.specs.List.{find, list_all, before_first, after_first, position_or_len}
 use Rattle.std.specs.Prelude.{⊤, option_map}
 use Rattle.std.specs.Str.{bytes_eq}
@@ -15,7 +16,9 @@ use Rattle.command_words.specs.declared.name.Verb.TheVariants.{Check, Eval, Run,
 use Rattle.command_words.specs.declared.name.Setting.{Setting}
 use Rattle.command_words.specs.declared.name.Setting.TheVariants.{Workers, Fuel, Frames, Script, Log, Report, Steps}
 use Rattle.command_words.specs.Commands as commands
-use Rattle.command_words.specs.Words.{Part, Saying, says, opens, wrong, has_setting, has_value, says_behind, word_says, name_says, pair_says, is_plain, is_equals, has_equals, setting_named, parts_behind, parts_by, in_front, is_same, is_about, is_set, value_in, value_by, or_else, operands_in, operand_in, are_single, one_in, two_in, of_two, of_three, number_or, numbers_in, flags_in, command_by, command_with, command_behind}
+use Rattle.command_words.specs.Words.{Part, Saying, says, opens, wrong, has_setting, has_value, says_behind, word_says, name_says, pair_says, is_plain, is_equals, has_equals, setting_named}
+use Rattle.command_words.specs.Words.{parts_behind, parts_by, in_front, is_same, is_about, is_set, value_in, value_by, or_else, operands_in, operand_in, are_single, one_in, two_in, of_two, of_three}
+use Rattle.command_words.specs.Words.{number_or, numbers_in, flags_in, command_by, command_with, command_behind}
 use Rattle.command_words.specs.Words as words
 use Rattle.command_words.specs.Line.{name_of, is_named, is_readable, line_of, has_two}
 use Rattle.command_words.specs.Found.{is_true, first_found, both_found, flags_found, command_found}
@@ -71,14 +74,16 @@ sound_name v (Some s) = go (has_setting v s) (has_value s) refl
     go false b e = tt
 
 sound_says : (v : Verb) (w : Option Setting) (word : Text) → SoundWaiting w → SoundSaying (says_behind v w word)
-sound_says v None word h = either (is_plain word) _ _ refl (either (has_equals word) _ _ (sound_pair v (setting_named (before_first is_equals word)) (after_first is_equals word)) (sound_name v (setting_named word)))
+sound_says v None word h = either (is_plain word) _ _ refl (either (has_equals word) _ _ (sound_pair v (setting_named (before_first is_equals word)) (after_first is_equals word))
+    (sound_name v (setting_named word)))
 sound_says v (Some s) word h = either (is_plain word) _ wrong h tt
 
 sound_front : (part : Part) (o : Option (List Part)) → is_sound part ≡ true → SoundParts o → SoundParts (in_front part o)
 sound_front part None h s = tt
 sound_front part (Some ps) h s = ap₂ (λ a b. a && b) h s
 
-sound_by : (v : Verb) (what : Saying) (ws : List Text) → SoundSaying what → ((w : Option Setting) → SoundWaiting w → SoundParts (parts_behind v w ws)) → SoundParts (parts_by what (λ n. parts_behind v n ws))
+sound_by : (v : Verb) (what : Saying) (ws : List Text) → SoundSaying what → ((w : Option Setting) → SoundWaiting w → SoundParts (parts_behind v w ws))
+    → SoundParts (parts_by what (λ n. parts_behind v n ws))
 sound_by v (says part) ws h ih = sound_front part (parts_behind v None ws) h (ih None tt)
 sound_by v (opens s) ws h ih = ih (Some s) h
 sound_by v wrong ws h ih = tt
@@ -165,7 +170,8 @@ option_value s p [] h sound = refl
 option_value s p (words.operand t ∷ ps) h sound = value_more (setting s) (operand p, t) _ false (place_named p s) ∙ option_value s (next p) ps h sound
 option_value s p (words.option o t ∷ ps) h sound = go (is_same o s) refl (option_value s p ps h (both _ _ sound).1)
   where
-    go : (b : Bool) → is_same o s ≡ b → value (setting s) (uses_from p ps) ≡ value_in s ps → value (setting s) ((setting o, t) ∷ uses_from p ps) ≡ or_else (cond (is_same o s) (Some t) None) (value_in s ps)
+    go : (b : Bool) → is_same o s ≡ b → value (setting s) (uses_from p ps) ≡ value_in s ps → value (setting s) ((setting o, t) ∷ uses_from p ps) ≡ or_else (cond (is_same o s) (Some t) None)
+        (value_in s ps)
     go true e ih = value_more (setting s) (setting o, t) _ true (named_same o s ∙ e) ∙ sym (ap (λ b. or_else (cond b (Some t) None) (value_in s ps)) e)
     go false e ih = value_more (setting s) (setting o, t) _ false (named_same o s ∙ e) ∙ (ih ∙ sym (ap (λ b. or_else (cond b (Some t) None) (value_in s ps)) e))
 option_value s p (words.flag o ∷ ps) h sound =
@@ -198,8 +204,10 @@ flag_value s p (words.flag o ∷ ps) h sound = go (is_same o s) refl (flag_value
 
     go : (b : Bool) → is_same o s ≡ b → is_true (value (setting s) (uses_from p ps)) ≡ nat_lt 0 (tally (is_about s) ps)
         → is_true (value (setting s) ((setting o, codes "true") ∷ uses_from p ps)) ≡ nat_lt 0 (cond (is_same o s) 1 0 + tally (is_about s) ps)
-    go true e ih = ap is_true (value_more (setting s) (setting o, codes "true") _ true (named_same o s ∙ e)) ∙ (some_tally (tally (is_about s) ps) ∙ sym (ap (λ b. nat_lt 0 (cond b 1 0 + tally (is_about s) ps)) e))
-    go false e ih = ap is_true (value_more (setting s) (setting o, codes "true") _ false (named_same o s ∙ e)) ∙ (ih ∙ (same_tally (tally (is_about s) ps) ∙ sym (ap (λ b. nat_lt 0 (cond b 1 0 + tally (is_about s) ps)) e)))
+    go true e ih = ap is_true (value_more (setting s) (setting o, codes "true") _ true (named_same o s ∙ e))
+        ∙ (some_tally (tally (is_about s) ps) ∙ sym (ap (λ b. nat_lt 0 (cond b 1 0 + tally (is_about s) ps)) e))
+    go false e ih = ap is_true (value_more (setting s) (setting o, codes "true") _ false (named_same o s ∙ e))
+        ∙ (ih ∙ (same_tally (tally (is_about s) ps) ∙ sym (ap (λ b. nat_lt 0 (cond b 1 0 + tally (is_about s) ps)) e)))
 
 -- the operand at a place
 abbrev pick : Place → Place → List Text → Option Text
@@ -208,7 +216,8 @@ pick q p (t ∷ ts) = cond (bytes_eq (operand_id p) (operand_id q)) (Some t) (pi
 
 place_value : (q p : Place) (ps : List Part) → value (operand q) (uses_from p ps) ≡ pick q p (operands_in ps)
 place_value q p [] = refl
-place_value q p (words.operand t ∷ ps) = value_more (operand q) (operand p, t) _ (bytes_eq (operand_id p) (operand_id q)) refl ∙ ap (λ o. cond (bytes_eq (operand_id p) (operand_id q)) (Some t) o) (place_value q (next p) ps)
+place_value q p (words.operand t ∷ ps) = value_more (operand q) (operand p, t) _ (bytes_eq (operand_id p) (operand_id q)) refl
+    ∙ ap (λ o. cond (bytes_eq (operand_id p) (operand_id q)) (Some t) o) (place_value q (next p) ps)
 place_value q p (words.option o t ∷ ps) = value_more (operand q) (setting o, t) _ false (named_place o q) ∙ place_value q p ps
 place_value q p (words.flag o ∷ ps) = value_more (operand q) (setting o, codes "true") _ false (named_place o q) ∙ place_value q p ps
 
@@ -342,7 +351,8 @@ refused_is v ws readable fails =
     by ps (Some us) t vd = none (are_single ps) ps (lacked ps (has_two v) refl t.2 (lost (lacks v (done v us)) refl))
       where
         same : lacks v (done v us) ≡ lacks_one (has_two v) (pick first first (operands_in ps)) (pick second first (operands_in ps))
-        same = lacks_is v us ∙ (ap (λ l. lacks_one (has_two v) (value (operand first) l) (value (operand second) l)) t.0 ∙ ap₂ (lacks_one (has_two v)) (place_value first first ps) (place_value second first ps))
+        same = lacks_is v us ∙ (ap (λ l. lacks_one (has_two v) (value (operand first) l) (value (operand second) l)) t.0
+            ∙ ap₂ (lacks_one (has_two v)) (place_value first first ps) (place_value second first ps))
 
         lost : (b : Bool) → lacks v (done v us) ≡ b → lacks_one (has_two v) (pick first first (operands_in ps)) (pick second first (operands_in ps)) ≡ true
         lost true e = sym same ∙ e
@@ -444,11 +454,13 @@ module _ (v : Verb) (word : Text) (h : is_readable word ≡ false) where
 
   word_wrong : (b : Bool) → has_equals word ≡ b → word_says v word ≡ wrong
   word_wrong true eq =
-      ap (λ b. cond b (says (words.operand word)) (cond (has_equals word) (pair_says v (setting_named (before_first is_equals word)) (after_first is_equals word)) (name_says v (setting_named word)))) plain_no
+      ap (λ b. cond b (says (words.operand word)) (cond (has_equals word) (pair_says v (setting_named (before_first is_equals word)) (after_first is_equals word)) (name_says v (setting_named word))))
+      plain_no
       ∙ (ap (λ b. cond b (pair_says v (setting_named (before_first is_equals word)) (after_first is_equals word)) (name_says v (setting_named word))) eq
       ∙ pair_wrong eq (setting_named (before_first is_equals word)) refl)
   word_wrong false eq =
-      ap (λ b. cond b (says (words.operand word)) (cond (has_equals word) (pair_says v (setting_named (before_first is_equals word)) (after_first is_equals word)) (name_says v (setting_named word)))) plain_no
+      ap (λ b. cond b (says (words.operand word)) (cond (has_equals word) (pair_says v (setting_named (before_first is_equals word)) (after_first is_equals word)) (name_says v (setting_named word))))
+      plain_no
       ∙ (ap (λ b. cond b (pair_says v (setting_named (before_first is_equals word)) (after_first is_equals word)) (name_says v (setting_named word))) eq
       ∙ name_wrong eq (setting_named word) refl)
 

@@ -114,7 +114,8 @@ pub verdict : (v : Verb) (ws : List Text) → list_all is_readable ws ≡ true �
 verdict v ws readable = go (run v start ws) (runs v start ws tt readable)
   where
     go : (o : Option State) → Agrees v (walk_fault (shape v) [] (walk_at start) ws) (ended v ws) o
-        → Verdict v (or_else (walk_fault (shape v) [] (walk_at start) ws) (after_walk v (ended v ws))) (finished (shape v).rules (ended v ws).held) (option_and_then (λ (st : State). settle st.uses st.pend) o)
+        → Verdict v (or_else (walk_fault (shape v) [] (walk_at start) ws) (after_walk v (ended v ws))) (finished (shape v).rules (ended v ws).held)
+        (option_and_then (λ (st : State). settle st.uses st.pend) o)
     go None a = λ f. a (first_empty _ _ f)
     go (Some st) a = verdict-by v _ _ _ _ _
         (ap₂ (λ f (w : Walk). or_else f (after_walk v w)) a.0 a.1)
@@ -134,7 +135,8 @@ default_adds : (rs : List Row) (a : Rule) → (with_default rs a ≡ rs) ⊎ ((w
 default_adds rs a = go (has_row a.id rs) refl a.defaults
   where
     go : (b : Bool) → has_row a.id rs ≡ b → (ds : List Text) → (cond b rs (default_rows a.id (reading_by a) ds rs) ≡ rs)
-        ⊎ ((cond b rs (default_rows a.id (reading_by a) ds rs) ≡ rs ++ record { id = a.id; values = ds; count = None; source = Some DefaultValue; reading = reading_by a } ∷ []) × (is_empty ds ≡ false))
+        ⊎ ((cond b rs (default_rows a.id (reading_by a) ds rs) ≡ rs ++ record { id = a.id; values = ds; count = None; source = Some DefaultValue; reading = reading_by a } ∷ [])
+        × (is_empty ds ≡ false))
     go true e ds = inl refl
     go false e [] = inl refl
     go false e (d ∷ ds) = inr (at_none a.id (more_values DefaultValue (d ∷ ds)) (record { id = a.id; values = d ∷ ds; count = None; source = Some DefaultValue; reading = reading_by a } ∷ []) rs e, long_list d ds)
@@ -244,7 +246,8 @@ off id (a ∷ rules) rs h e =
 
     go : (with_default rs a ≡ rs) ⊎ ((with_default rs a ≡ rs ++ default_row a ∷ []) × (is_empty a.defaults ≡ false)) → is_true (first_of id (with_default rs a)) ≡ false
     go (inl x) = ap (λ y. is_true (first_of id y)) x ∙ e
-    go (inr x) = ap (λ y. is_true (first_of id y)) x.0 ∙ (ap (λ o. is_true (option_and_then (λ (r : Row). slice_get r.values 0) o)) (find-append (λ (y : Row). bytes_eq y.id id) rs (default_row a ∷ []))
+    go (inr x) = ap (λ y. is_true (first_of id y)) x.0 ∙ (ap (λ o. is_true (option_and_then (λ (r : Row). slice_get r.values 0) o))
+        (find-append (λ (y : Row). bytes_eq y.id id) rs (default_row a ∷ []))
         ∙ at (look rs id) e (bytes_eq a.id id))
 
 pub read_flag : (v : Verb) (k : Key) (us : List Use) → is_true (first_of (id_of k) (done v us)) ≡ is_true (value k us)

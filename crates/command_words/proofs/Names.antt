@@ -1,5 +1,6 @@
 -- Which argument a name means, to `clap` and to us.
-use Rattle.std.proofs.Common.{suc, ◌+◌, lt-ltb, ◌≡◌, ◌∙◌, ℕ, Bool, cond, true, false, refl, sym, ap, subst, arith, List, [], ◌∷◌, length, Option, Some, None, inl, inr, ◌⊎◌, ◌||◌, true≢false, take, drop, nat_lt}
+use Rattle.std.proofs.Common.{suc, ◌+◌, lt-ltb, ◌≡◌, ◌∙◌, ℕ, Bool, cond, true, false, refl, sym, ap, subst, arith, List, [], ◌∷◌, length, Option, Some, None, inl, inr, ◌⊎◌, ◌||◌, true≢false, take}
+use Rattle.std.proofs.Common.{drop, nat_lt}
 use Rattle.std.proofs.Math.Numerals.{one-add}
 use Rattle.std.specs.List.{list_any, position_or_len, before_first, after_first}
 use Rattle.std.specs.Cmp.Lexicographic.{same_text}

@@ -2,7 +2,8 @@
 use Rattle.std.proofs.Common.{◌≡◌, ◌∙◌, ℕ, Bool, cond, true, false, refl, sym, ap, ap₂, subst, List, [], ◌∷◌, Option, Some, None, ◌&&◌, ◌==◌, true≢false}
 use Rattle.std.specs.Prelude.{option_and_then}
 use Rattle.std.specs.Str.{bytes_eq}
-use Rattle.clap.specs.Walk.{Rule, Row, Text, Held, Walk, Waiting, Step, idle, option, positional, value, walked, settled, arg_by_index, arg_by_id, arg_by_long, after_step, option_word, next, pushed, subcommand_met, walk}
+use Rattle.clap.specs.Walk.{Rule, Row, Text, Held, Walk, Waiting, Step, idle, option, positional, value, walked, settled, arg_by_index, arg_by_id, arg_by_long, after_step, option_word, next, pushed}
+use Rattle.clap.specs.Walk.{subcommand_met, walk}
 use Rattle.clap.specs.Faults.{turn_fault, step_fault}
 use Rattle.clap.specs.Walk.{subcommand_or_other, plain_word, trailing, long_or_other, short_or_plain}
 use Rattle.clap.specs.Faults.{other_fault, flag_word_fault, bundle_fault}
@@ -58,7 +59,8 @@ module _ (v : Verb) (x : ℕ) (xs : Text) (plain : (x == 45) ≡ false) where
   open_fault h id place = ap₂ (λ f (m : Held × Step). or_else f (step_fault (shape v) (number place) m.0 m.1)) (no_fault h) (met_other (option id) place h)
 
   open_walk : (h : Held) (id : Text) (place : Place) → walked (shape v).rules [] (walk_held h (option id) place) (x ∷ xs)
-      ≡ after_step (shape v).rules (x ∷ xs) (walk_held h (option id) place) (option_word (arg_by_id (shape v).rules id) id (x ∷ xs) h).0 (next (option_word (arg_by_id (shape v).rules id) id (x ∷ xs) h).1)
+      ≡ after_step (shape v).rules (x ∷ xs) (walk_held h (option id) place) (option_word (arg_by_id (shape v).rules id) id (x ∷ xs) h).0
+      (next (option_word (arg_by_id (shape v).rules id) id (x ∷ xs) h).1)
   unfolding walked
   open_walk h id place = ap (λ (m : Held × Step). after_step (shape v).rules (x ∷ xs) (walk_held h (option id) place) m.0 m.1) (met_other (option id) place h)
 
@@ -94,13 +96,15 @@ module _ (v : Verb) (x : ℕ) (xs : Text) (plain : (x == 45) ≡ false) where
     placed_turn first true e = rw (by_place v first) (takes_place first e (waits_here first) _ _ (settle uses pend) (settles v uses pend h))
     placed_turn second true e =
         let found : arg_by_index (shape v).rules 2 ≡ Some (operand_built second) = by_place v second ∙ ap (λ b. cond b (Some (operand_built second)) None) e in
-        let at : option_and_then (λ (us : List Use). turns.placed v second (x ∷ xs) us) (settle uses pend) ≡ option_and_then (λ (us : List Use). Some (record { uses = us; pend = full (operand second, x ∷ xs); place = past })) (settle uses pend) =
+        let at : option_and_then (λ (us : List Use). turns.placed v second (x ∷ xs) us) (settle uses pend) ≡ option_and_then
+        (λ (us : List Use). Some (record { uses = us; pend = full (operand second, x ∷ xs); place = past })) (settle uses pend) =
         ap (λ b. option_and_then (λ (us : List Use). cond b (Some (record { uses = us; pend = full (operand second, x ∷ xs); place = past })) None) (settle uses pend)) e in
         rw (found, at) (takes_place second e (waits_here second) _ _ (settle uses pend) (settles v uses pend h))
     placed_turn past true e = absurd (true≢false (sym e))
 
   pend_filled : (s : Setting) (uses : List Use) (place : Place) → has_value s ≡ true
-      → after_step (shape v).rules (x ∷ xs) (walk_held (held_at uses (opened s)) (option (name_of s)) place) (option_word (Some (setting_built s)) (name_of s) (x ∷ xs) (held_at uses (opened s))).0 (next (option_word (Some (setting_built s)) (name_of s) (x ∷ xs) (held_at uses (opened s))).1)
+      → after_step (shape v).rules (x ∷ xs) (walk_held (held_at uses (opened s)) (option (name_of s)) place) (option_word (Some (setting_built s)) (name_of s) (x ∷ xs) (held_at uses (opened s))).0
+      (next (option_word (Some (setting_built s)) (name_of s) (x ∷ xs) (held_at uses (opened s))).1)
       ≡ walk_at (record { uses = uses; pend = full (setting s, x ∷ xs); place = place })
   pend_filled Workers uses place h = refl
   pend_filled Fuel uses place h = refl
@@ -110,13 +114,16 @@ module _ (v : Verb) (x : ℕ) (xs : Text) (plain : (x == 45) ≡ false) where
   pend_filled _ uses place h = cc
 
   pub plain_turn : (uses : List Use) (pend : Pend) (place : Place) → Stands v pend
-      → Agrees v (turn_fault (shape v) [] (walk_held (held_at uses pend) (waits_for pend) place) (x ∷ xs)) (walked (shape v).rules [] (walk_held (held_at uses pend) (waits_for pend) place) (x ∷ xs)) (step_of v uses pend place (x ∷ xs))
+      → Agrees v (turn_fault (shape v) [] (walk_held (held_at uses pend) (waits_for pend) place) (x ∷ xs)) (walked (shape v).rules [] (walk_held (held_at uses pend) (waits_for pend) place) (x ∷ xs))
+      (step_of v uses pend place (x ∷ xs))
   plain_turn uses (opened s) place h =
       let what : filled uses place (says_behind v (Some s) (x ∷ xs)) ≡ Some (record { uses = uses; pend = full (setting s, x ∷ xs); place = place }) = rw plain refl in
-      subst (λ o. Agrees v (turn_fault (shape v) [] (walk_held (held_at uses (opened s)) (option (name_of s)) place) (x ∷ xs)) (walked (shape v).rules [] (walk_held (held_at uses (opened s)) (option (name_of s)) place) (x ∷ xs)) o) (sym what) (
+      subst (λ o. Agrees v (turn_fault (shape v) [] (walk_held (held_at uses (opened s)) (option (name_of s)) place) (x ∷ xs))
+      (walked (shape v).rules [] (walk_held (held_at uses (opened s)) (option (name_of s)) place) (x ∷ xs)) o) (sym what) (
         open_fault (held_at uses (opened s)) (name_of s) place,
         open_walk (held_at uses (opened s)) (name_of s) place
-            ∙ ap (λ a. after_step (shape v).rules (x ∷ xs) (walk_held (held_at uses (opened s)) (option (name_of s)) place) (option_word a (name_of s) (x ∷ xs) (held_at uses (opened s))).0 (next (option_word a (name_of s) (x ∷ xs) (held_at uses (opened s))).1)) (by_key v (setting s) h.0)
+            ∙ ap (λ a. after_step (shape v).rules (x ∷ xs) (walk_held (held_at uses (opened s)) (option (name_of s)) place) (option_word a (name_of s) (x ∷ xs) (held_at uses (opened s))).0
+            (next (option_word a (name_of s) (x ∷ xs) (held_at uses (opened s))).1)) (by_key v (setting s) h.0)
             ∙ pend_filled s uses place h.1,
         h,
       )
@@ -125,12 +132,14 @@ module _ (v : Verb) (x : ℕ) (xs : Text) (plain : (x == 45) ≡ false) where
       what : word_says v (x ∷ xs) ≡ says (words.operand (x ∷ xs))
       what = rw plain refl
 
-      go : (Place → Saying) → Agrees v (turn_fault (shape v) [] (walk_held (held_at uses free) idle place) (x ∷ xs)) (walked (shape v).rules [] (walk_held (held_at uses free) idle place) (x ∷ xs)) (option_and_then (λ (us : List Use). said v us place (word_says v (x ∷ xs))) (settle uses free))
+      go : (Place → Saying) → Agrees v (turn_fault (shape v) [] (walk_held (held_at uses free) idle place) (x ∷ xs)) (walked (shape v).rules [] (walk_held (held_at uses free) idle place) (x ∷ xs))
+          (option_and_then (λ (us : List Use). said v us place (word_says v (x ∷ xs))) (settle uses free))
       go _ = rw (what, idle_fault (held_at uses free) place, idle_walk (held_at uses free) place) (placed_turn uses free h place (has_place v place) refl)
   plain_turn uses (full u) place h = go (λ p. word_says v (x ∷ xs))
     where
       what : word_says v (x ∷ xs) ≡ says (words.operand (x ∷ xs))
       what = rw plain refl
 
-      go : (Place → Saying) → Agrees v (turn_fault (shape v) [] (walk_held (held_at uses (full u)) idle place) (x ∷ xs)) (walked (shape v).rules [] (walk_held (held_at uses (full u)) idle place) (x ∷ xs)) (option_and_then (λ (us : List Use). said v us place (word_says v (x ∷ xs))) (settle uses (full u)))
+      go : (Place → Saying) → Agrees v (turn_fault (shape v) [] (walk_held (held_at uses (full u)) idle place) (x ∷ xs))
+          (walked (shape v).rules [] (walk_held (held_at uses (full u)) idle place) (x ∷ xs)) (option_and_then (λ (us : List Use). said v us place (word_says v (x ∷ xs))) (settle uses (full u)))
       go _ = rw (what, idle_fault (held_at uses (full u)) place, idle_walk (held_at uses (full u)) place) (placed_turn uses (full u) h place (has_place v place) refl)

@@ -71,33 +71,38 @@ same_byte x e = grind (arith, e)
 
 -- a word with two dashes before more
 two_dashes : (v : Verb) (uses : List Use) (pend : Pend) (place : Place) (y : ℕ) (r : Text) → Stands v pend → is_readable (45 ∷ 45 ∷ y ∷ r) ≡ true
-    → Agrees v (turn_fault (shape v) [] (walk_held (held_at uses pend) (waits_for pend) place) (45 ∷ 45 ∷ y ∷ r)) (walked (shape v).rules [] (walk_held (held_at uses pend) (waits_for pend) place) (45 ∷ 45 ∷ y ∷ r)) (step_of v uses pend place (45 ∷ 45 ∷ y ∷ r))
+    → Agrees v (turn_fault (shape v) [] (walk_held (held_at uses pend) (waits_for pend) place) (45 ∷ 45 ∷ y ∷ r))
+    (walked (shape v).rules [] (walk_held (held_at uses pend) (waits_for pend) place) (45 ∷ 45 ∷ y ∷ r)) (step_of v uses pend place (45 ∷ 45 ∷ y ∷ r))
 two_dashes v uses free place y r h readable = long_all v uses place y r free h readable (list_any is_equals (y ∷ r)) refl
 two_dashes v uses (full u) place y r h readable = long_all v uses place y r (full u) h readable (list_any is_equals (y ∷ r)) refl
 two_dashes v uses (opened s) place y r h readable = long_all v uses place y r (opened s) h readable (list_any is_equals (y ∷ r)) refl
 
 dashed : (v : Verb) (uses : List Use) (pend : Pend) (place : Place) (x : ℕ) (xs : Text) → Stands v pend → is_readable (x ∷ xs) ≡ true → is_named (x ∷ xs) ≡ true
-    → Agrees v (turn_fault (shape v) [] (walk_held (held_at uses pend) (waits_for pend) place) (x ∷ xs)) (walked (shape v).rules [] (walk_held (held_at uses pend) (waits_for pend) place) (x ∷ xs)) (step_of v uses pend place (x ∷ xs))
+    → Agrees v (turn_fault (shape v) [] (walk_held (held_at uses pend) (waits_for pend) place) (x ∷ xs)) (walked (shape v).rules [] (walk_held (held_at uses pend) (waits_for pend) place) (x ∷ xs))
+    (step_of v uses pend place (x ∷ xs))
 dashed v uses pend place x [] h readable n = absurd (true≢false (sym n))
 dashed v uses pend place x (z ∷ []) h readable n = absurd (true≢false (sym n))
 dashed v uses pend place x (z ∷ y ∷ r) h readable n =
     let parts = both (x == 45) (z == 45) n in
     let ex : x ≡ 45 = same_byte x parts.0 in
     let ez : z ≡ 45 = same_byte z parts.1 in
-    let stated = λ (a b : ℕ). Agrees v (turn_fault (shape v) [] (walk_held (held_at uses pend) (waits_for pend) place) (a ∷ b ∷ y ∷ r)) (walked (shape v).rules [] (walk_held (held_at uses pend) (waits_for pend) place) (a ∷ b ∷ y ∷ r)) (step_of v uses pend place (a ∷ b ∷ y ∷ r)) in
+    let stated = λ (a b : ℕ). Agrees v (turn_fault (shape v) [] (walk_held (held_at uses pend) (waits_for pend) place) (a ∷ b ∷ y ∷ r))
+    (walked (shape v).rules [] (walk_held (held_at uses pend) (waits_for pend) place) (a ∷ b ∷ y ∷ r)) (step_of v uses pend place (a ∷ b ∷ y ∷ r)) in
     let known : is_readable (45 ∷ 45 ∷ y ∷ r) ≡ true = subst (λ a. is_readable (a ∷ 45 ∷ y ∷ r) ≡ true) ex (subst (λ b. is_readable (x ∷ b ∷ y ∷ r) ≡ true) ez readable) in
     subst (λ a. stated a z) (sym ex) (subst (λ b. stated 45 b) (sym ez) (two_dashes v uses pend place y r h known))
 
 -- at each word that may be read the two agree
 pub turn : (v : Verb) (uses : List Use) (pend : Pend) (place : Place) (word : Text) → Stands v pend → is_readable word ≡ true
-    → Agrees v (turn_fault (shape v) [] (walk_held (held_at uses pend) (waits_for pend) place) word) (walked (shape v).rules [] (walk_held (held_at uses pend) (waits_for pend) place) word) (step_of v uses pend place word)
+    → Agrees v (turn_fault (shape v) [] (walk_held (held_at uses pend) (waits_for pend) place) word) (walked (shape v).rules [] (walk_held (held_at uses pend) (waits_for pend) place) word)
+    (step_of v uses pend place word)
 turn v uses pend place [] h readable = cc
 turn v uses pend place (x ∷ xs) h readable = go (x == 45) refl
   where
     named : (x == 45) ≡ true → is_named (x ∷ xs) ≡ true
     named e = (both _ _ (sym (ap (λ b. not b || (is_named (x ∷ xs) && (not (has_equals (x ∷ xs)) || is_plain (after_first is_equals (x ∷ xs))))) e) ∙ readable)).0
 
-    go : (b : Bool) → (x == 45) ≡ b → Agrees v (turn_fault (shape v) [] (walk_held (held_at uses pend) (waits_for pend) place) (x ∷ xs)) (walked (shape v).rules [] (walk_held (held_at uses pend) (waits_for pend) place) (x ∷ xs)) (step_of v uses pend place (x ∷ xs))
+    go : (b : Bool) → (x == 45) ≡ b → Agrees v (turn_fault (shape v) [] (walk_held (held_at uses pend) (waits_for pend) place) (x ∷ xs))
+        (walked (shape v).rules [] (walk_held (held_at uses pend) (waits_for pend) place) (x ∷ xs)) (step_of v uses pend place (x ∷ xs))
     go false e = plain_turn v x xs e uses pend place h
     go true e = dashed v uses pend place x xs h readable (named e)
 
@@ -117,7 +122,8 @@ runs v st (word ∷ ws) h readable =
   where
     go : (o : Option State) → Agrees v (turn_fault (shape v) [] (walk_at st) word) (walked (shape v).rules [] (walk_at st) word) o
         → ((next : State) → Stands v next.pend → Agrees v (walk_fault (shape v) [] (walk_at next) ws) (fold (walked (shape v).rules []) (walk_at next) ws) (run v next ws))
-        → Agrees v (or_else (turn_fault (shape v) [] (walk_at st) word) (walk_fault (shape v) [] (walked (shape v).rules [] (walk_at st) word) ws)) (fold (walked (shape v).rules []) (walked (shape v).rules [] (walk_at st) word) ws)
+        → Agrees v (or_else (turn_fault (shape v) [] (walk_at st) word) (walk_fault (shape v) [] (walked (shape v).rules [] (walk_at st) word) ws))
+        (fold (walked (shape v).rules []) (walked (shape v).rules [] (walk_at st) word) ws)
         (option_and_then (λ (next : State). run v next ws) o)
     go None t more = λ f. t (first_empty _ _ f)
     go (Some next) t more = agrees-by v _ _ _ _ _ _

@@ -159,13 +159,15 @@ add_value k t uses h = go (is_used k uses) refl
     go true e = λ f. some_fault _ _ (sym (faults ∙ ap clash e) ∙ f)
     go false e = (faults ∙ ap clash e, new_use k t uses e)
 
-pub add_flag : (s : Setting) (uses : List Use) → has_value s ≡ false → AddsRows (use_fault false (setting_built s) [] (rows uses)) (used (setting_built s) [] (rows uses)) (add uses (setting s, codes "true"))
+pub add_flag : (s : Setting) (uses : List Use) → has_value s ≡ false → AddsRows (use_fault false (setting_built s) [] (rows uses)) (used (setting_built s) [] (rows uses))
+    (add uses (setting s, codes "true"))
 add_flag s uses h = go (is_used (setting s) uses) refl
   where
     faults : use_fault false (setting_built s) [] (rows uses) ≡ clash (is_used (setting s) uses)
     faults = flag_fault_is s (rows uses) h ∙ ap clash (row_of_use (setting s) uses)
 
-    go : (b : Bool) → is_used (setting s) uses ≡ b → AddsRows (use_fault false (setting_built s) [] (rows uses)) (used (setting_built s) [] (rows uses)) (cond b None (Some (uses ++ (setting s, codes "true") ∷ [])))
+    go : (b : Bool) → is_used (setting s) uses ≡ b → AddsRows (use_fault false (setting_built s) [] (rows uses)) (used (setting_built s) [] (rows uses))
+        (cond b None (Some (uses ++ (setting s, codes "true") ∷ [])))
     go true e = λ f. some_fault _ _ (sym (faults ∙ ap clash e) ∙ f)
     go false e = (faults ∙ ap clash e, flag_is s (rows uses) h ∙ new_use (setting s) (codes "true") uses e)
 

@@ -1,7 +1,8 @@
 -- What `clap` does at a word that can be read is what the word says.
 use Rattle.std.proofs.Common.{◌≡◌, ◌∙◌, Bool, cond, true, false, refl, sym, ap, subst, List, [], ◌∷◌, Option, Some, None, codes}
 use Rattle.std.specs.Prelude.{⊤, option_and_then}
-use Rattle.clap.specs.Walk.{Rule, Row, Text, Held, Walk, Waiting, Step, idle, option, positional, value, word_met, plain_word, option_word, settled, reacted, walked, arg_by_id, arg_by_long, arg_by_index, after_flag, long_met, after_step, long_word, takes_values}
+use Rattle.clap.specs.Walk.{Rule, Row, Text, Held, Walk, Waiting, Step, idle, option, positional, value, word_met, plain_word, option_word, settled, reacted, walked, arg_by_id, arg_by_long}
+use Rattle.clap.specs.Walk.{arg_by_index, after_flag, long_met, after_step, long_word, takes_values}
 use Rattle.clap.specs.Faults.{use_fault, settle_fault, long_fault}
 use Rattle.clap.specs.Kinds.{Kinds, or_else}
 use Rattle.clap.specs.Walk.{subcommand_met, long_or_other, is_pending, takes_several, to_positional}
@@ -128,14 +129,16 @@ module _ (v : Verb) (waiting : Waiting) (place : Place) (word : Text) (uses : Li
   valued s (Some t) plain has true e =
       let what : long_says v (Some s) (Some t) ≡ says (words.option s t) = rw (has, e, plain) refl in
       rw (what, takes s ∙ e)
-      (reacts v place (setting s, t) (λ rs. use_fault false (setting_built s) (t ∷ []) rs) (λ rs. Rattle.clap.specs.Walk.used (setting_built s) (t ∷ []) rs) (λ us. add_value (setting s) t us e) _ _ (settle uses pend) (settles v uses pend h))
+      (reacts v place (setting s, t) (λ rs. use_fault false (setting_built s) (t ∷ []) rs) (λ rs. Rattle.clap.specs.Walk.used (setting_built s) (t ∷ []) rs) (λ us. add_value (setting s) t us e) _ _
+      (settle uses pend) (settles v uses pend h))
   valued s (Some t) plain has false e =
       let what : long_says v (Some s) (Some t) ≡ wrong = rw (has, e) refl in
       rw (what, takes s ∙ e) (nothing _ _ (λ f. some_fault _ _ f) (settle uses pend))
   valued s None plain has false e =
       let what : long_says v (Some s) None ≡ says (words.flag s) = rw (has, e) refl in
       rw (what, takes s ∙ e)
-      (reacts v place (setting s, codes "true") (λ rs. use_fault false (setting_built s) [] rs) (λ rs. Rattle.clap.specs.Walk.used (setting_built s) [] rs) (λ us. add_flag s us e) _ _ (settle uses pend) (settles v uses pend h))
+      (reacts v place (setting s, codes "true") (λ rs. use_fault false (setting_built s) [] rs) (λ rs. Rattle.clap.specs.Walk.used (setting_built s) [] rs) (λ us. add_flag s us e) _ _
+      (settle uses pend) (settles v uses pend h))
   valued s None plain has true e =
       let what : long_says v (Some s) None ≡ opens s = rw (has, e) refl in
       rw (what, takes s ∙ e) (go (settle uses pend) (settles v uses pend h))

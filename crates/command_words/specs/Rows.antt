@@ -27,10 +27,12 @@ pub record Operands : Type 0 where
 -- options and flags by name, before and behind the operand
 pub record Options : Type 0 where
   pub all :
-      command_of (codes "run" ∷ codes "--workers" ∷ codes "0" ∷ codes "--fuel=9" ∷ codes "p" ∷ codes "--frames" ∷ codes "2" ∷ codes "--script" ∷ codes "s" ∷ codes "--log=l" ∷ codes "--report" ∷ codes "--steps" ∷ [])
+      command_of (codes "run" ∷ codes "--workers" ∷ codes "0" ∷ codes "--fuel=9" ∷ codes "p" ∷ codes "--frames" ∷ codes "2" ∷ codes
+      "--script" ∷ codes "s" ∷ codes "--log=l" ∷ codes "--report" ∷ codes "--steps" ∷ [])
       ≡ Some (run (codes "p") (record { workers = 0; fuel = 9; frames = 2; script = Some (codes "s"); log = Some (codes "l"); report = true; steps = true }))
   pub of_exec : command_of (codes "exec" ∷ codes "--steps" ∷ codes "m" ∷ []) ≡ Some (exec (codes "m") (record usual { steps = true }))
-  pub of_sim : command_of (codes "sim" ∷ codes "--log" ∷ codes "l" ∷ codes "p" ∷ codes "e" ∷ []) ≡ Some (sim (codes "p") (codes "e") (Some (codes "l")))
+  pub of_sim : command_of (codes "sim" ∷ codes "--log" ∷ codes "l" ∷ codes "p" ∷ codes "e" ∷ []) ≡ Some
+      (sim (codes "p") (codes "e") (Some (codes "l")))
   pub not_of_sim : command_of (codes "sim" ∷ codes "p" ∷ codes "e" ∷ codes "--steps" ∷ []) ≡ None
   pub not_of_check : command_of (codes "check" ∷ codes "p" ∷ codes "--log=l" ∷ []) ≡ None
   pub not_of_eval : command_of (codes "eval" ∷ codes "p" ∷ codes "--fuel=9" ∷ []) ≡ None
@@ -38,7 +40,8 @@ pub record Options : Type 0 where
 
 -- values
 pub record Values : Type 0 where
-  pub two_equals : command_of (codes "run" ∷ codes "p" ∷ codes "--log=a=b" ∷ []) ≡ Some (run (codes "p") (record usual { log = Some (codes "a=b") }))
+  pub two_equals : command_of (codes "run" ∷ codes "p" ∷ codes "--log=a=b" ∷ []) ≡ Some
+      (run (codes "p") (record usual { log = Some (codes "a=b") }))
   pub empty : command_of (codes "run" ∷ codes "p" ∷ codes "--log=" ∷ []) ≡ None
   pub dash : command_of (codes "run" ∷ codes "p" ∷ codes "--log=-l" ∷ []) ≡ None
   pub missing : command_of (codes "run" ∷ codes "p" ∷ codes "--log" ∷ []) ≡ None
@@ -71,14 +74,17 @@ pub record Numbers : Type 0 where
 
 -- the ends of each range
 pub record Ranges : Type 0 where
-  pub most_workers : command_of (codes "run" ∷ codes "p" ∷ codes "--workers=32" ∷ []) ≡ Some (run (codes "p") (record usual { workers = 32 }))
+  pub most_workers : command_of (codes "run" ∷ codes "p" ∷ codes "--workers=32" ∷ []) ≡ Some
+      (run (codes "p") (record usual { workers = 32 }))
   pub more_workers : command_of (codes "run" ∷ codes "p" ∷ codes "--workers=33" ∷ []) ≡ None
   pub least_fuel : command_of (codes "run" ∷ codes "p" ∷ codes "--fuel=1" ∷ []) ≡ Some (run (codes "p") (record usual { fuel = 1 }))
   pub less_fuel : command_of (codes "run" ∷ codes "p" ∷ codes "--fuel=0" ∷ []) ≡ None
-  pub most_fuel : command_of (codes "run" ∷ codes "p" ∷ codes "--fuel=4294967295" ∷ []) ≡ Some (run (codes "p") (record usual { fuel = 4294967295 }))
+  pub most_fuel : command_of (codes "run" ∷ codes "p" ∷ codes "--fuel=4294967295" ∷ []) ≡ Some
+      (run (codes "p") (record usual { fuel = 4294967295 }))
   pub more_fuel : command_of (codes "run" ∷ codes "p" ∷ codes "--fuel=4294967296" ∷ []) ≡ None
   pub fewer_frames : command_of (codes "run" ∷ codes "p" ∷ codes "--frames=1" ∷ []) ≡ None
-  pub most_frames : command_of (codes "run" ∷ codes "p" ∷ codes "--frames=4096" ∷ []) ≡ Some (run (codes "p") (record usual { frames = 4096 }))
+  pub most_frames : command_of (codes "run" ∷ codes "p" ∷ codes "--frames=4096" ∷ []) ≡ Some
+      (run (codes "p") (record usual { frames = 4096 }))
   pub more_frames : command_of (codes "run" ∷ codes "p" ∷ codes "--frames=4097" ∷ []) ≡ None
   pub least_size : command_of (codes "gen" ∷ codes "0" ∷ codes "1" ∷ []) ≡ Some (gen 0 1)
   pub less_size : command_of (codes "gen" ∷ codes "7" ∷ codes "0" ∷ []) ≡ None

@@ -80,7 +80,8 @@ pub(crate) fn find<'a>(
     verb: Verb,
     list: &'a [String],
 ) -> Result<ArgMatches<'a>, WordsError>
-    ensures found { IfOk result (λ matches. words.command_behind (Some verb) (map string_bytes list.entry.now) ≡ command_found verb (found_of matches)) }
+    ensures found { IfOk result (λ matches. words.command_behind (Some verb) (map string_bytes list.entry.now) ≡ command_found verb
+        (found_of matches)) }
     ensures no_command { IsErrOf result NoCommand → words.command_behind (Some verb) (map string_bytes list.entry.now) ≡ None }
 {
     if !are_readable(list) {

@@ -45,7 +45,8 @@ fn with_setting<'a>(
 
 /// The command line with the options and flags of a run.
 fn with_run_settings<'a>(command: Command<'a>, alloc: Global) -> Result<Command<'a>, AllocError>
-    ensures { IfOk result (λ more. app_of more ≡ fold (λ app setting. with_rule app (line.setting_rule setting)) (app_of command.entry) (line.settings_of Run)) }
+    ensures { IfOk result (λ more. app_of more ≡ fold (λ app setting. with_rule app (line.setting_rule setting)) (app_of command.entry)
+        (line.settings_of Run)) }
 {
     let command = with_setting(command, alloc, Setting::Workers)?;
     let command = with_setting(command, alloc, Setting::Fuel)?;

@@ -41,7 +41,8 @@ module _ (p : Program) where
   -- codes appended, and then others
   pub codes_appended : (l m n : List Code) (xs ys : List RoutineBlock) → m ≡ l ++ map (λ b. block_code p b) xs → n ≡ m ++ map (λ b. block_code p b) ys → n ≡ l ++ map (λ b. block_code p b) (xs ++ ys)
   codes_appended l m n xs ys first next =
-      next ∙ ap (λ k. k ++ map (λ b. block_code p b) ys) first ∙ append_assoc l (map (λ b. block_code p b) xs) (map (λ b. block_code p b) ys) ∙ ap (λ k. l ++ k) (sym (map-append (λ b. block_code p b) xs ys))
+      next ∙ ap (λ k. k ++ map (λ b. block_code p b) ys) first ∙ append_assoc l (map (λ b. block_code p b) xs) (map (λ b. block_code p b) ys)
+      ∙ ap (λ k. l ++ k) (sym (map-append (λ b. block_code p b) xs ys))
 
   routines_are : (blocks : List RoutineBlock) → BlocksAre p (hidden-the_row-RoutineBlock-3 blocks) → RoutinesAre p blocks
   unfolding shape-the_row-RoutineBlock-3 hidden-the_row-RoutineBlock-3 hidden
@@ -66,7 +67,8 @@ module _ (p : Program) where
   if_first_fit f arms shown last e same h =
       subst (λ (a : List Arm). BlocksFit p (steps_of_arms a)) (sym same) (first_fit (steps_of_arms arms) (steps_of_last last) (subst (BlocksFit p) (ap steps_in e ∙ steps_if arms last) h))
 
-  pub if_last_fit : (f : Form) (arms : List Arm) (last : Option (List Stmt)) (body shown : List Stmt) → f ≡ form.If arms last → last ≡ Some body → shown ≡ body → BlocksFit p (steps_in f) → BlocksFit p (steps_of shown)
+  pub if_last_fit : (f : Form) (arms : List Arm) (last : Option (List Stmt)) (body shown : List Stmt) → f ≡ form.If arms last → last ≡ Some body → shown ≡ body → BlocksFit p (steps_in f)
+      → BlocksFit p (steps_of shown)
   if_last_fit f arms last body shown e some same h =
       subst (λ (b : List Stmt). BlocksFit p (steps_of b)) (sym same) (others_fit (steps_of_arms arms) (steps_of body) (subst (BlocksFit p) (steps_if_some f arms last body e some) h))
 

@@ -25,8 +25,10 @@ module _ (p : Program) where
   abbrev pub body_of : List Stmt → Slots → ℕ → List Instr
   body_of body slots slot = statements_code p body slots (beginning slot) (ends_at (statements_size p body slots slot))
 
-  row_is_body : (body : List Stmt) (slots : Slots) (slot : ℕ) → row_code p (hidden-the_row-Stmt-1 body) slots (beginning slot) (ends_at (row_size p (hidden-the_row-Stmt-1 body) slots slot)) ≡ body_of body slots slot
-  row_is_body body slots slot = ap (λ n. row_code p (hidden-the_row-Stmt-1 body) slots (beginning slot) (ends_at n)) (row_is p body slots slot) ∙ row_code_is p body slots (beginning slot) (ends_at (statements_size p body slots slot))
+  row_is_body : (body : List Stmt) (slots : Slots) (slot : ℕ) → row_code p (hidden-the_row-Stmt-1 body) slots (beginning slot) (ends_at (row_size p (hidden-the_row-Stmt-1 body) slots slot)) ≡ body_of
+      body slots slot
+  row_is_body body slots slot = ap (λ n. row_code p (hidden-the_row-Stmt-1 body) slots (beginning slot) (ends_at n)) (row_is p body slots slot)
+      ∙ row_code_is p body slots (beginning slot) (ends_at (statements_size p body slots slot))
 
   -- a function
   pub function_is : (f : Function) → function_code p f ≡ record {

@@ -17,7 +17,8 @@ use Rattle.compiled_code.specs.Places.{slots_after, form_size}
 use Rattle.compiled_code.specs.Values.{code_of}
 use Rattle.compiled_code.specs.Statements.{At, Exits, past, beyond, beyond_row, beyond_arms, form_code, row_code, arms_code}
 use Rattle.compiled_code.specs.Shape.{ValueIs, FormIs, RowIs, ArmsAre, IsSimple, IsChange}
-use Rattle.expression_code.specs.Lists.{texts_of, texts_of_arms, texts_of_last, steps_of, steps_of_arms, steps_of_last, beyond_all, beyond_all_arms, statements_code, all_arms_code, last_block_code, while_code, StatementsAre, AllArmsAre, LastBlockIs}
+use Rattle.expression_code.specs.Lists.{texts_of, texts_of_arms, texts_of_last, steps_of, steps_of_arms, steps_of_last, beyond_all, beyond_all_arms, statements_code, all_arms_code, last_block_code}
+use Rattle.expression_code.specs.Lists.{while_code, StatementsAre, AllArmsAre, LastBlockIs}
 use Rattle.expression_code.proofs.RowLemmas.{kinds_row, kinds_arms}
 use Rattle.expression_code.proofs.StatementSizes.{row_is, arms_is}
 

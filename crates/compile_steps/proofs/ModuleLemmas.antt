@@ -136,7 +136,8 @@ module_is p = λ j. record {
 }
 
 -- so it is one that was made of these parts
-pub module_made : (p q : Program) (shared : List Shared) (one two : List Stmt) (fs : List Function) (words : ℕ) (t0 tallies : List ℕ) (i0 initial : List (ℕ × ℤ)) (x0 texts : List Text) (functions b0 blocks : List Code) (main : Code)
+pub module_made : (p q : Program) (shared : List Shared) (one two : List Stmt) (fs : List Function) (words : ℕ) (t0 tallies : List ℕ) (i0 initial : List (ℕ × ℤ)) (x0 texts : List Text)
+    (functions b0 blocks : List Code) (main : Code)
     → q ≡ p → shared ≡ p.shared → one ≡ p.main → two ≡ p.main → fs ≡ p.functions → t0 ≡ [] → i0 ≡ [] → x0 ≡ [] → b0 ≡ []
     → words ≡ length (first_memory shared)
     → tallies ≡ t0 ++ tallies_from 0 (first_memory shared)
@@ -178,7 +179,8 @@ module _ (p : Program) (spelled : IsSpelledWithin text_limit p) (accepted : IsAc
   module_routines = subst (λ (n : Module). HasRoutines p n) (sym same) (has_routines p (is_verified p spelled accepted bytes) (accepted_shape p spelled accepted))
 
 -- the code of one more function
-pub next_codes : (p : Program) (codes next all : List Code) (code : Code) (fs : List Function) (k : ℕ) (f : Function) → next ≡ codes ++ code ∷ [] → code ≡ function_code p f → k < length fs → f ≡ get_or fs k f
+pub next_codes : (p : Program) (codes next all : List Code) (code : Code) (fs : List Function) (k : ℕ) (f : Function) → next ≡ codes ++ code ∷ [] → code ≡ function_code p f → k < length fs
+    → f ≡ get_or fs k f
     → codes ++ map (λ g. function_code p g) (drop k fs) ≡ all → next ++ map (λ g. function_code p g) (drop (k + 1) fs) ≡ all
 next_codes p codes next all code fs k f pushed is lt there so_far =
     ap (λ (l : List Code). l ++ map (λ g. function_code p g) (drop (k + 1) fs)) pushed

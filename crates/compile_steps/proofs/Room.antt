@@ -18,7 +18,8 @@ use Rattle.compiled_code.specs.Statements.{At, Exits, past, beyond}
 use Rattle.compiled_code.proofs.Lengths.{form_length}
 use Rattle.expression_code.specs.declared.writer.Writer.{Writer}
 use Rattle.expression_code.specs.Counts.{IsSmall}
-use Rattle.expression_code.specs.Lists.{kinds_of, kinds_of_arms, kinds_of_last, texts_of, texts_of_arms, texts_of_last, steps_of, steps_of_arms, steps_of_last, statements_size, all_arms_size, last_block_size, step_size, beyond_all, beyond_all_arms}
+use Rattle.expression_code.specs.Lists.{kinds_of, kinds_of_arms, kinds_of_last, texts_of, texts_of_arms, texts_of_last, steps_of, steps_of_arms, steps_of_last, statements_size, all_arms_size}
+use Rattle.expression_code.specs.Lists.{last_block_size, step_size, beyond_all, beyond_all_arms}
 use Rattle.expression_code.proofs.RowLemmas.{kinds_while, kinds_block, kinds_for, kinds_if, kinds_row, blocks_is}
 use Rattle.expression_code.proofs.StatementSizes.{size_while, size_block, size_if, size_par, for_parts}
 use Rattle.compile_steps.specs.declared.statements.Around.{Around}
@@ -57,7 +58,8 @@ module _ (p : Program) where
   pub test_fits : (test : Expr) (body : List Stmt) (w : Writer) → WhileFits p test body w → TestFits p test body None w
   test_fits test body w h = let r = h.room in omega (arith, r)
 
-  pub inside_fits : (test : Expr) (body : List Stmt) (next : Option Form) (around : Around) (old new : Writer) → WhileFits p test body old → WroteTest p test body next around old new → AllFit p body new
+  pub inside_fits : (test : Expr) (body : List Stmt) (next : Option Form) (around : Around) (old new : Writer) → WhileFits p test body old → WroteTest p test body next around old new
+      → AllFit p body new
   inside_fits test body next around old new h t =
       let at = here_past p (size_of test + 1) t.code (test_long p test old.scope.slots (length old.instrs) around.out) in
       let begins : Fits (beyond_all p old.scope.slots (past p (here old) (size_of test + 1)) body) = record {
@@ -136,10 +138,12 @@ module _ (p : Program) where
         block = let r = whole.block in omega (arith, r);
       })
 
-  pub last_fits : (f : Form) (arms shown : List Arm) (last : Option (List Stmt)) (exits : Exits) (end : ℕ) (old new : Writer) → f ≡ form.If arms last → shown ≡ arms → FormFits p f old → WroteArms p shown exits end old new → LastFits p last new
+  pub last_fits : (f : Form) (arms shown : List Arm) (last : Option (List Stmt)) (exits : Exits) (end : ℕ) (old new : Writer) → f ≡ form.If arms last → shown ≡ arms → FormFits p f old
+      → WroteArms p shown exits end old new → LastFits p last new
   last_fits f arms shown last exits end old new is e h wrote =
       let one : WroteArms p arms exits end old new = subst (λ (a : List Arm). WroteArms p a exits end old new) e wrote in
-      let at : here new ≡ beyond_all_arms p old.scope.slots (here old) arms = here_behind (all_arms_size p arms old.scope.slots old.scope.next) one (all_arms_length p arms old.scope.slots (here old) exits end) in
+      let at : here new ≡ beyond_all_arms p old.scope.slots (here old) arms = here_behind (all_arms_size p arms old.scope.slots old.scope.next) one
+      (all_arms_length p arms old.scope.slots (here old) exits end) in
       by last (if_parts f arms last old is h) one.slots at
     where
       by : (last : Option (List Stmt)) → Fits (record {
@@ -212,7 +216,8 @@ module _ (p : Program) where
       }
 
   -- its first statement
-  pub for_first_fits : (f : Form) (first first' : Stmt) (test : Expr) (next : Stmt) (body : List Stmt) (w : Writer) → f ≡ form.For first test next body → first' ≡ first → ForIs p first.form test next.form body
+  pub for_first_fits : (f : Form) (first first' : Stmt) (test : Expr) (next : Stmt) (body : List Stmt) (w : Writer) → f ≡ form.For first test next body → first' ≡ first
+      → ForIs p first.form test next.form body
       → FormFits p f w → FormFits p first'.form w
   for_first_fits f first first' test next body w is e shape h =
       let one : Scoped = record { slots = slots_after w.scope.slots w.scope.next first.form; next = w.scope.next + length (kinds_in first.form) } in
@@ -228,7 +233,8 @@ module _ (p : Program) where
       })
 
   module _ (f : Form) (first first' : Stmt) (test : Expr) (next next' : Stmt) (body inside : List Stmt) (exits : Exits) (old one : Writer) (is : f ≡ form.For first test next body)
-      (first_is : first' ≡ first) (next_is : next' ≡ next) (inside_is : inside ≡ body) (shape : ForIs p first.form test next.form body) (h : FormFits p f old) (w : WroteForm p first'.form exits old one) where
+      (first_is : first' ≡ first) (next_is : next' ≡ next) (inside_is : inside ≡ body) (shape : ForIs p first.form test next.form body) (h : FormFits p f old)
+      (w : WroteForm p first'.form exits old one) where
     head : here one ≡ beyond p old.scope.slots (here old) first'.form
     head = here_behind (form_size p first'.form old.scope.slots old.scope.next) w (form_length p first'.form old.scope.slots (here old) exits)
 
@@ -236,7 +242,8 @@ module _ (p : Program) where
     two = record { slots = one.scope.slots; next = one.scope.next + length (kinds_of inside) }
 
     parts : form_size p f old.scope.slots old.scope.next
-        ≡ form_size p first'.form old.scope.slots old.scope.next + size_of test + 1 + statements_size p inside one.scope.slots one.scope.next + form_size p next'.form one.scope.slots (one.scope.next + length (kinds_of inside)) + 1
+        ≡ form_size p first'.form old.scope.slots old.scope.next + size_of test + 1 + statements_size p inside one.scope.slots one.scope.next + form_size p next'.form one.scope.slots
+        (one.scope.next + length (kinds_of inside)) + 1
     parts = for_parts p f first first' test next next' body inside old.scope.slots old.scope.next one.scope two is first_is next_is inside_is w.slots w.locals refl refl
 
     -- where it ends, from behind its first statement

@@ -1,5 +1,6 @@
 -- The words of shared declarations: their tally words, and those that do not begin at 0.
-use Rattle.std.proofs.Common.{◌≡◌, ℕ, zero, suc, ℤ, pos, ◌+◌, ◌<◌, ◌≤◌, Bool, true, false, if◌then◌else◌, List, [], ◌∷◌, ◌++◌, length, map, drop, replicate, Option, Some, None, refl, sym, ap, ◌∙◌, arith, get_or, length-append}
+use Rattle.std.proofs.Common.{◌≡◌, ℕ, zero, suc, ℤ, pos, ◌+◌, ◌<◌, ◌≤◌, Bool, true, false, if◌then◌else◌, List, [], ◌∷◌, ◌++◌, length, map, drop, replicate, Option, Some, None, refl, sym, ap, ◌∙◌}
+use Rattle.std.proofs.Common.{arith, get_or, length-append}
 use Rattle.std.specs.Prelude.{slice_get}
 use Rattle.std.specs.Ordering.{int_eq}
 use Rattle.std.proofs.lemmas.List.{drop_all}
@@ -134,14 +135,16 @@ initial_rest at s i le = let same = numbers_length s.values in zeros_left (words
 -- ---- all declarations
 
 -- what is listed of declarations, and of those behind the first one
-pub tallies_more : (at next : ℕ) (left : List Shared) (s : Shared) (rest : List Shared) → left ≡ s ∷ rest → next ≡ at + words_in s → tallies_from at (first_memory left) ≡ tallies_from at (first_words s) ++ tallies_from next (first_memory rest)
+pub tallies_more : (at next : ℕ) (left : List Shared) (s : Shared) (rest : List Shared) → left ≡ s ∷ rest → next ≡ at + words_in s
+    → tallies_from at (first_memory left) ≡ tallies_from at (first_words s) ++ tallies_from next (first_memory rest)
 tallies_more at next left s rest e here =
     let same : at + length (first_words s) ≡ next = ap (λ (n : ℕ). at + n) (length_words s) ∙ sym here in
     ap (λ (all : List Shared). tallies_from at (first_memory all)) e
     ∙ tallies_append (first_words s) (first_memory rest) at
     ∙ ap (λ (n : ℕ). tallies_from at (first_words s) ++ tallies_from n (first_memory rest)) same
 
-pub initial_more : (at next : ℕ) (left : List Shared) (s : Shared) (rest : List Shared) → left ≡ s ∷ rest → next ≡ at + words_in s → initial_from at (first_memory left) ≡ initial_from at (first_words s) ++ initial_from next (first_memory rest)
+pub initial_more : (at next : ℕ) (left : List Shared) (s : Shared) (rest : List Shared) → left ≡ s ∷ rest → next ≡ at + words_in s
+    → initial_from at (first_memory left) ≡ initial_from at (first_words s) ++ initial_from next (first_memory rest)
 initial_more at next left s rest e here =
     let same : at + length (first_words s) ≡ next = ap (λ (n : ℕ). at + n) (length_words s) ∙ sym here in
     ap (λ (all : List Shared). initial_from at (first_memory all)) e

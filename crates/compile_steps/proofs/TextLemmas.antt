@@ -24,7 +24,8 @@ pub texts_block : (f : Form) (body : List Stmt) → f ≡ form.Block body → te
 texts_block f body e = ap texts_in e ∙ texts_row body
 
 -- a `while` or a `for`: the first statement of a `for` and the one behind its block print nothing
-pub texts_loop : (f : Form) (body : List Stmt) → ((test : Expr) × (f ≡ form.While test body)) ⊎ ((first : Stmt) × (test : Expr) × (next : Stmt) × (f ≡ form.For first test next body)) → texts_in f ≡ texts_of body
+pub texts_loop : (f : Form) (body : List Stmt) → ((test : Expr) × (f ≡ form.While test body)) ⊎ ((first : Stmt) × (test : Expr) × (next : Stmt) × (f ≡ form.For first test next body))
+    → texts_in f ≡ texts_of body
 texts_loop f body (inl h) = ap texts_in h.1 ∙ texts_row body
 texts_loop f body (inr h) = ap texts_in h.3 ∙ texts_row body
 

@@ -28,7 +28,8 @@ use Rattle.compiled_code.proofs.Lengths.{both, expr_length, form_length}
 use Rattle.expression_code.specs.declared.writer.Writer.{Writer}
 use Rattle.compile_steps.specs.declared.statements.Around.{Around}
 use Rattle.expression_code.specs.Scopes.{Scoped}
-use Rattle.expression_code.specs.Lists.{kinds_of, kinds_of_arms, kinds_of_last, texts_of, texts_of_arms, texts_of_last, steps_of, steps_of_arms, steps_of_last, slots_after_all, statements_size, step_size, all_arms_size, beyond_all, beyond_all_arms, statements_code, all_arms_code, last_block_code}
+use Rattle.expression_code.specs.Lists.{kinds_of, kinds_of_arms, kinds_of_last, texts_of, texts_of_arms, texts_of_last, steps_of, steps_of_arms, steps_of_last, slots_after_all, statements_size}
+use Rattle.expression_code.specs.Lists.{step_size, all_arms_size, beyond_all, beyond_all_arms, statements_code, all_arms_code, last_block_code}
 use Rattle.compile_steps.specs.Writing.{here, Wrote, WroteCode, WroteTest, WroteStep, WroteForm, WroteAll, WroteBlock, WroteArms, WroteLast, WroteWhile}
 use Rattle.expression_code.proofs.RowLemmas.{slots_grow, block_ends, kinds_row, kinds_if, kinds_for, blocks_is}
 use Rattle.compile_steps.proofs.Bridges.{texts_row, steps_row, texts_if, steps_if, row_code_is, if_code_is, while_code_is, for_code, for_code_is, ForIs, is_for}
@@ -43,7 +44,8 @@ module _ (p : Program) where
   pub statements_length : (body : List Stmt) (slots : Slots) (at : At) (exits : Exits) → length (statements_code p body slots at exits) ≡ statements_size p body slots at.slot
   statements_length [] slots at exits = refl
   statements_length (s ∷ rest) slots at exits =
-      both (form_code p s.form slots at exits) (statements_code p rest (slots_after slots at.slot s.form) (beyond p slots at s.form) exits) (form_size p s.form slots at.slot) (statements_size p rest (slots_after slots at.slot s.form) (at.slot + length (kinds_in s.form)))
+      both (form_code p s.form slots at exits) (statements_code p rest (slots_after slots at.slot s.form) (beyond p slots at s.form) exits) (form_size p s.form slots at.slot)
+      (statements_size p rest (slots_after slots at.slot s.form) (at.slot + length (kinds_in s.form)))
       (form_length p s.form slots at exits) (statements_length rest (slots_after slots at.slot s.form) (beyond p slots at s.form) exits)
 
   pub all_arms_length : (arms : List Arm) (slots : Slots) (at : At) (exits : Exits) (end : ℕ) → length (all_arms_code p arms slots at exits end) ≡ all_arms_size p arms slots at.slot
@@ -68,7 +70,8 @@ next_of xs n x lt is = at_drop_more (λ ys. ys) xs n x lt ∙ ap (λ y. y ∷ dr
 -- ---- one behind the other
 
 -- code behind code
-pub wrote_then : {a b : List Instr} {first next : Slots} {k k' t t' s s' : ℕ} {old mid new : Writer} → Wrote a first k t s old mid → Wrote b next k' t' s' mid new → Wrote (a ++ b) next (k + k') (t + t') (s + s') old new
+pub wrote_then : {a b : List Instr} {first next : Slots} {k k' t t' s s' : ℕ} {old mid new : Writer} → Wrote a first k t s old mid → Wrote b next k' t' s' mid new
+    → Wrote (a ++ b) next (k + k') (t + t') (s + s') old new
 wrote_then {a} {b} {first} {next} {k} {k'} {t} {t'} {s} {s'} {old} {mid} {new} one two = record {
   instrs = two.instrs ∙ ap (λ c. c ++ b) one.instrs ∙ append_assoc old.instrs a b;
   slots = two.slots;
@@ -78,7 +81,8 @@ wrote_then {a} {b} {first} {next} {k} {k'} {t} {t'} {s} {s'} {old} {mid} {new} o
 }
 
 -- the same under other names
-pub wrote_as : {a b : List Instr} {first next : Slots} {k k' t t' s s' : ℕ} {old new : Writer} → Wrote a first k t s old new → b ≡ a → first ≡ next → k ≡ k' → t ≡ t' → s ≡ s' → Wrote b next k' t' s' old new
+pub wrote_as : {a b : List Instr} {first next : Slots} {k k' t t' s s' : ℕ} {old new : Writer} → Wrote a first k t s old new → b ≡ a → first ≡ next → k ≡ k' → t ≡ t' → s ≡ s'
+    → Wrote b next k' t' s' old new
 wrote_as {a} {b} {first} {next} {k} {k'} {t} {t'} {s} {s'} {old} {new} w code visible locals texts steps = record {
   instrs = w.instrs ∙ ap (λ c. old.instrs ++ c) (sym code);
   slots = w.slots ∙ visible;
@@ -88,7 +92,8 @@ wrote_as {a} {b} {first} {next} {k} {k'} {t} {t'} {s} {s'} {old} {new} w code vi
 }
 
 -- one more instruction
-pub pushed : {a : List Instr} {visible : Slots} {k t s : ℕ} {old mid : Writer} (x : Instr) (instrs : List Instr) → Wrote a visible k t s old mid → instrs ≡ mid.instrs ++ x ∷ [] → Wrote (a ++ x ∷ []) visible k t s old (record mid { instrs = instrs })
+pub pushed : {a : List Instr} {visible : Slots} {k t s : ℕ} {old mid : Writer} (x : Instr) (instrs : List Instr) → Wrote a visible k t s old mid → instrs ≡ mid.instrs ++ x ∷ []
+    → Wrote (a ++ x ∷ []) visible k t s old (record mid { instrs = instrs })
 pushed {a} {visible} {k} {t} {s} {old} {mid} x instrs w e = record {
   instrs = e ∙ ap (λ c. c ++ x ∷ []) w.instrs ∙ append_assoc old.instrs a (x ∷ []);
   slots = w.slots;
@@ -98,7 +103,8 @@ pushed {a} {visible} {k} {t} {s} {old} {mid} x instrs w e = record {
 }
 
 -- where code goes on
-pub here_behind : {a : List Instr} {visible : Slots} {k t s : ℕ} {old new : Writer} (n : ℕ) → Wrote a visible k t s old new → length a ≡ n → here new ≡ record { place = (here old).place + n; slot = (here old).slot + k; text = (here old).text + t; block = (here old).block + s }
+pub here_behind : {a : List Instr} {visible : Slots} {k t s : ℕ} {old new : Writer} (n : ℕ) → Wrote a visible k t s old new → length a ≡ n
+    → here new ≡ record { place = (here old).place + n; slot = (here old).slot + k; text = (here old).text + t; block = (here old).block + s }
 here_behind {a} {visible} {k} {t} {s} {old} {new} n w long =
     let place : length new.instrs ≡ length old.instrs + n = ap length w.instrs ∙ length_both old.instrs a (length old.instrs) n refl long in
     λ j. record { place = place j; slot = w.locals j; text = w.texts j; block = w.blocks j }
@@ -163,7 +169,8 @@ pub wrote_nothing : (w : Writer) → WroteCode [] w w
 wrote_nothing w = record { instrs = sym (append-nil w.instrs); slots = refl; locals = omega arith; texts = omega arith; blocks = omega arith }
 
 -- the same, where other locals are left visible
-pub left : {a : List Instr} {visible : Slots} {k t s : ℕ} {old mid : Writer} (ss : Slots) (scope : Scoped) → Wrote a visible k t s old mid → scope ≡ record { slots = ss; next = mid.scope.next } → Wrote a ss k t s old (record mid { scope = scope })
+pub left : {a : List Instr} {visible : Slots} {k t s : ℕ} {old mid : Writer} (ss : Slots) (scope : Scoped) → Wrote a visible k t s old mid → scope ≡ record { slots = ss; next = mid.scope.next }
+    → Wrote a ss k t s old (record mid { scope = scope })
 left {a} {visible} {k} {t} {s} {old} {mid} ss scope w e = record {
   instrs = w.instrs;
   slots = ap (λ (x : Scoped). x.slots) e;
@@ -181,7 +188,8 @@ module _ (p : Program) where
       → WroteTest p test body next (record { test = test_at; behind = behind; out = out }) old (record old { instrs = two; scope = scope })
   test_wrote test body next test_at inside more behind out old scope one two begins wrote inside_is more_is same behind_is out_is branch =
       let code = code_of p old.scope.slots test (length old.instrs) in
-      let long : length one ≡ length old.instrs + size_of test = ap length wrote ∙ length_both old.instrs code (length old.instrs) (size_of test) refl (expr_length p old.scope.slots test (length old.instrs)) in
+      let long : length one ≡ length old.instrs + size_of test = ap length wrote ∙ length_both old.instrs code (length old.instrs) (size_of test) refl
+      (expr_length p old.scope.slots test (length old.instrs)) in
       let next_same : scope.next ≡ old.scope.next = ap (λ (x : Scoped). x.next) same in
       record {
         code = record {
@@ -213,7 +221,8 @@ module _ (p : Program) where
       → scope ≡ record { slots = take mark mid.scope.slots; next = mid.scope.next } → WroteBlock p body exits old (record mid { scope = scope })
   block_wrote body exits mark old mid scope w marked e =
       left old.scope.slots scope w
-      (e ∙ ap (λ (ss : Slots). record { slots = ss; next = mid.scope.next }) ((λ j. take (marked j) (w.slots j)) ∙ block_ends old.scope.slots (slots_after_all old.scope.slots old.scope.next body) old.scope.next body refl))
+      (e ∙ ap (λ (ss : Slots). record { slots = ss; next = mid.scope.next }) ((λ j. take (marked j) (w.slots j))
+      ∙ block_ends old.scope.slots (slots_after_all old.scope.slots old.scope.next body) old.scope.next body refl))
 
   -- a `while`
   pub while_wrote : (test : Expr) (body : List Stmt) (around : Around) (old mid after : Writer) (instrs : List Instr) → WroteTest p test body None around old mid
@@ -232,7 +241,8 @@ module _ (p : Program) where
       t.code.slots (omega arith) (omega arith) (omega arith)
 
   -- an arm more
-  arm_wrote : (a : Arm) (rest : List Arm) (exits : Exits) (end : ℕ) (around : Around) (old mid after new : Writer) (instrs : List Instr) → WroteTest p (out-Arm a).test (out-Arm a).body None around old mid
+  arm_wrote : (a : Arm) (rest : List Arm) (exits : Exits) (end : ℕ) (around : Around) (old mid after new : Writer) (instrs : List Instr)
+      → WroteTest p (out-Arm a).test (out-Arm a).body None around old mid
       → WroteBlock p (out-Arm a).body exits mid after → instrs ≡ after.instrs ++ i.Jump end ∷ [] → WroteArms p rest exits end (record after { instrs = instrs }) new
       → WroteArms p (a ∷ rest) exits end old new
   arm_wrote a rest exits end around old mid after new instrs t block e others =
@@ -257,17 +267,23 @@ module _ (p : Program) where
       ∙ ap (λ c. c ++ i.Jump end ∷ jump_and_rest) (sym (append_assoc code (i.Branch around.out ∷ []) inside))
       ∙ sym (append_assoc ((code ++ i.Branch around.out ∷ []) ++ inside) (i.Jump end ∷ []) jump_and_rest))
       slots_rest
-      (let l = length-append (kinds_of body) (kinds_of_arms rest) in omega (arith, l)) (let l = length-append (texts_of body) (texts_of_arms rest) in omega (arith, l)) (let l = length-append (steps_of body) (steps_of_arms rest) in omega (arith, l))
+      (let l = length-append (kinds_of body) (kinds_of_arms rest) in omega (arith, l)) (let l = length-append (texts_of body) (texts_of_arms rest) in omega (arith, l))
+      (let l = length-append (steps_of body) (steps_of_arms rest) in omega (arith, l))
 
-  pub arms_wrote : (a : Arm) (rest : List Arm) (body body' : List Stmt) (exits : Exits) (end : ℕ) (around : Around) (old mid after new : Writer) (instrs : List Instr) → body ≡ (out-Arm a).body → body' ≡ (out-Arm a).body
-      → WroteTest p (out-Arm a).test body None around old mid → WroteBlock p body' exits mid after → instrs ≡ after.instrs ++ i.Jump end ∷ [] → WroteArms p rest exits end (record after { instrs = instrs }) new
+  pub arms_wrote : (a : Arm) (rest : List Arm) (body body' : List Stmt) (exits : Exits) (end : ℕ) (around : Around) (old mid after new : Writer) (instrs : List Instr) → body ≡ (out-Arm a).body
+      → body' ≡ (out-Arm a).body
+      → WroteTest p (out-Arm a).test body None around old mid → WroteBlock p body' exits mid after → instrs ≡ after.instrs ++ i.Jump end ∷ []
+      → WroteArms p rest exits end (record after { instrs = instrs }) new
       → WroteArms p (a ∷ rest) exits end old new
   arms_wrote a rest body body' exits end around old mid after new instrs same same' t block e others =
-      arm_wrote a rest exits end around old mid after new instrs (subst (λ (b : List Stmt). WroteTest p (out-Arm a).test b None around old mid) same t) (subst (λ (b : List Stmt). WroteBlock p b exits mid after) same' block) e others
+      arm_wrote a rest exits end around old mid after new instrs (subst (λ (b : List Stmt). WroteTest p (out-Arm a).test b None around old mid) same t)
+      (subst (λ (b : List Stmt). WroteBlock p b exits mid after) same' block) e others
 
   -- an `if` that ends at this place
-  pub if_wrote : (f : Form) (arms shown : List Arm) (last : Option (List Stmt)) (exits : Exits) (end : ℕ) (old mid new : Writer) (scope : Scoped) → f ≡ form.If arms last → shown ≡ arms → scope ≡ old.scope
-      → end ≡ length old.instrs + form_size p f old.scope.slots old.scope.next → WroteArms p shown exits end (record old { scope = scope }) mid → WroteLast p last exits mid new → WroteForm p f exits old new
+  pub if_wrote : (f : Form) (arms shown : List Arm) (last : Option (List Stmt)) (exits : Exits) (end : ℕ) (old mid new : Writer) (scope : Scoped) → f ≡ form.If arms last → shown ≡ arms
+      → scope ≡ old.scope
+      → end ≡ length old.instrs + form_size p f old.scope.slots old.scope.next → WroteArms p shown exits end (record old { scope = scope }) mid → WroteLast p last exits mid new
+      → WroteForm p f exits old new
   if_wrote f arms shown last exits end old mid new scope is e same ends arms_part last_part =
       let one : WroteArms p arms exits end old mid =
       subst (λ (a : List Arm). WroteArms p a exits end old mid) e (subst (λ (x : Scoped). WroteArms p shown exits end (record old { scope = x }) mid) same arms_part) in
@@ -284,26 +300,32 @@ module _ (p : Program) where
       (sym (ap length (steps_if arms last) ∙ length-append (steps_of_arms arms) (steps_of_last last))))
 
   -- a `while`, a block and a step, as statements
-  pub form_while_wrote : (f : Form) (test : Expr) (body shown : List Stmt) (exits : Exits) (old new : Writer) → f ≡ form.While test body → shown ≡ body → WroteWhile p test shown old new → WroteForm p f exits old new
+  pub form_while_wrote : (f : Form) (test : Expr) (body shown : List Stmt) (exits : Exits) (old new : Writer) → f ≡ form.While test body → shown ≡ body → WroteWhile p test shown old new
+      → WroteForm p f exits old new
   form_while_wrote f test body shown exits old new is e w =
       subst (λ (g : Form). WroteForm p g exits old new) (sym is)
-      (wrote_as (subst (λ (b : List Stmt). WroteWhile p test b old new) e w) (while_code_is p test body old.scope.slots (here old) exits) refl (sym (ap length (kinds_row body))) (sym (ap length (texts_row body))) (sym (ap length (steps_row body))))
+      (wrote_as (subst (λ (b : List Stmt). WroteWhile p test b old new) e w) (while_code_is p test body old.scope.slots (here old) exits) refl (sym (ap length (kinds_row body)))
+      (sym (ap length (texts_row body))) (sym (ap length (steps_row body))))
 
   pub form_block_wrote : (f : Form) (body shown : List Stmt) (exits : Exits) (old new : Writer) → f ≡ form.Block body → shown ≡ body → WroteBlock p shown exits old new → WroteForm p f exits old new
   form_block_wrote f body shown exits old new is e w =
       subst (λ (g : Form). WroteForm p g exits old new) (sym is)
-      (wrote_as (subst (λ (b : List Stmt). WroteBlock p b exits old new) e w) (row_code_is p body old.scope.slots (here old) exits) refl (sym (ap length (kinds_row body))) (sym (ap length (texts_row body))) (sym (ap length (steps_row body))))
+      (wrote_as (subst (λ (b : List Stmt). WroteBlock p b exits old new) e w) (row_code_is p body old.scope.slots (here old) exits) refl (sym (ap length (kinds_row body)))
+      (sym (ap length (texts_row body))) (sym (ap length (steps_row body))))
 
   pub form_par_wrote : (f : Form) (blocks shown : List RoutineBlock) (exits : Exits) (old new : Writer) → f ≡ form.Par blocks → shown ≡ blocks → WroteStep p shown old new → WroteForm p f exits old new
   form_par_wrote f blocks shown exits old new is e w =
       subst (λ (g : Form). WroteForm p g exits old new) (sym is)
-      (wrote_as (subst (λ (b : List RoutineBlock). WroteStep p b old new) e w) (λ j. widths_code p old.scope.slots (blocks_is blocks j) (length old.instrs) ++ i.Par old.block (length (blocks_is blocks j)) ∷ []) refl refl refl (sym (ap length (blocks_is blocks))))
+      (wrote_as (subst (λ (b : List RoutineBlock). WroteStep p b old new) e w) (λ j. widths_code p old.scope.slots (blocks_is blocks j) (length old.instrs)
+      ++ i.Par old.block (length (blocks_is blocks j)) ∷ []) refl refl refl (sym (ap length (blocks_is blocks))))
 
   -- A `for`. What its first statement declares is visible up to the end of the loop; its last one is a change, which declares nothing.
   for_wrote : (first : Form) (test : Expr) (next : Form) (body : List Stmt) (exits : Exits) (around : Around) (old one two three four : Writer) (instrs : List Instr) → ForIs p first test next body
-      → WroteForm p first exits old one → WroteTest p test body (Some next) around one two → WroteBlock p body (record { on_break = around.out; on_continue = around.behind }) two three → WroteForm p next exits three four
+      → WroteForm p first exits old one → WroteTest p test body (Some next) around one two → WroteBlock p body (record { on_break = around.out; on_continue = around.behind }) two three
+      → WroteForm p next exits three four
       → instrs ≡ four.instrs ++ i.Loop around.test ∷ []
-      → Wrote (for_code p first test next body old.scope.slots (here old) exits) (slots_after old.scope.slots old.scope.next first) (length (kinds_in first ++ kinds_of body)) (length (texts_of body)) (length (steps_of body)) old (record four { instrs = instrs })
+      → Wrote (for_code p first test next body old.scope.slots (here old) exits) (slots_after old.scope.slots old.scope.next first) (length (kinds_in first ++ kinds_of body)) (length (texts_of body))
+      (length (steps_of body)) old (record four { instrs = instrs })
   for_wrote first test next body exits around old one two three four instrs is w t block w' e =
       let inner = slots_after old.scope.slots old.scope.next first in
       let head = beyond p old.scope.slots (here old) first in
@@ -340,9 +362,11 @@ module _ (p : Program) where
       (omega (arith, no_kinds, kinds_both)) (omega (arith, no_texts, no_first_texts)) (omega (arith, no_steps, no_first_steps))
 
   -- the same, where the locals of the loop are left behind it
-  pub form_for_wrote : (f : Form) (first first' : Stmt) (test : Expr) (next next' : Stmt) (body inside inside' : List Stmt) (exits : Exits) (around : Around) (mark : ℕ) (old one two three four : Writer) (instrs : List Instr) (scope : Scoped)
+  pub form_for_wrote : (f : Form) (first first' : Stmt) (test : Expr) (next next' : Stmt) (body inside inside' : List Stmt) (exits : Exits) (around : Around) (mark : ℕ)
+      (old one two three four : Writer) (instrs : List Instr) (scope : Scoped)
       → f ≡ form.For first test next body → first' ≡ first → next' ≡ next → inside ≡ body → inside' ≡ body → FormIs p f → mark ≡ length old.scope.slots
-      → WroteForm p first'.form exits old one → WroteTest p test inside (Some next'.form) around one two → WroteBlock p inside' (record { on_break = around.out; on_continue = around.behind }) two three → WroteForm p next'.form exits three four
+      → WroteForm p first'.form exits old one → WroteTest p test inside (Some next'.form) around one two
+      → WroteBlock p inside' (record { on_break = around.out; on_continue = around.behind }) two three → WroteForm p next'.form exits three four
       → instrs ≡ four.instrs ++ i.Loop around.test ∷ [] → scope ≡ record { slots = take mark four.scope.slots; next = four.scope.next }
       → WroteForm p f exits old (record four { instrs = instrs; scope = scope })
   form_for_wrote f first first' test next next' body inside inside' exits around mark old one two three four instrs scope is first_is next_is inside_is inside_is' shape marked w t block w' e left_is =
@@ -355,25 +379,30 @@ module _ (p : Program) where
       let slots_left : take mark four.scope.slots ≡ old.scope.slots = (λ j. take (marked j) (whole.slots j)) ∙ left_one old.scope.slots old.scope.next first.form in
       subst (λ (g : Form). WroteForm p g exits old (record four { instrs = instrs; scope = scope })) (sym is)
       (wrote_as (left old.scope.slots scope whole (left_is ∙ ap (λ (ss : Slots). record { slots = ss; next = four.scope.next }) slots_left))
-      (for_code_is p first test next body old.scope.slots (here old) exits) refl (sym (ap length (kinds_for (form.For first test next body) first test next body refl))) (sym (ap length (texts_row body))) (sym (ap length (steps_row body))))
+      (for_code_is p first test next body old.scope.slots (here old) exits) refl (sym (ap length (kinds_for (form.For first test next body) first test next body refl)))
+      (sym (ap length (texts_row body))) (sym (ap length (steps_row body))))
 
 -- ---- single statements
 
 -- the code for an item of an array
 set_element : (p : Program) (slots : Slots) (q : Place) (e index : Expr) (at : ℕ) → (out-Place q).index ≡ Some index
-    → set_code p slots q e at ≡ code_of p slots index at ++ code_of p slots e (at + size_of index) ++ i.SetItem (declared (area_of p.shared (out-Place q).name.text)).first (unwrap_or (declared (area_of p.shared (out-Place q).name.text)).items 0) ∷ []
+    → set_code p slots q e at ≡ code_of p slots index at ++ code_of p slots e (at + size_of index)
+    ++ i.SetItem (declared (area_of p.shared (out-Place q).name.text)).first (unwrap_or (declared (area_of p.shared (out-Place q).name.text)).items 0) ∷ []
 unfolding shape-the_row-Expr-0 hidden-the_row-Expr-0 hidden
 set_element p slots q e index at is = ap (λ (x : Place). set_code p slots x e at) (is-Place' q) ∙ ap (λ j. set_code p slots (Place' (out-Place q).name (back-Place-index j)) e at) is
 
 add_element : (p : Program) (slots : Slots) (q : Place) (e index : Expr) (at : ℕ) → (out-Place q).index ≡ Some index
-    → add_to_code p slots q e at ≡ code_of p slots index at ++ code_of p slots e (at + size_of index) ++ i.AddItem (declared (area_of p.shared (out-Place q).name.text)).first (unwrap_or (declared (area_of p.shared (out-Place q).name.text)).items 0) ∷ []
+    → add_to_code p slots q e at ≡ code_of p slots index at ++ code_of p slots e (at + size_of index)
+    ++ i.AddItem (declared (area_of p.shared (out-Place q).name.text)).first (unwrap_or (declared (area_of p.shared (out-Place q).name.text)).items 0) ∷ []
 unfolding shape-the_row-Expr-0 hidden-the_row-Expr-0 hidden
 add_element p slots q e index at is = ap (λ (x : Place). add_to_code p slots x e at) (is-Place' q) ∙ ap (λ j. add_to_code p slots (Place' (out-Place q).name (back-Place-index j)) e at) is
 
 -- an index, a value, and an instruction for an item of an array
-item_wrote : (p : Program) (e index shown : Expr) (instr : ℕ → ℕ → Instr) (meant area : Area) (items : ℕ) (old : Writer) (one two three : List Instr) → shown ≡ index → area ≡ meant → items ≡ unwrap_or area.items 0
+item_wrote : (p : Program) (e index shown : Expr) (instr : ℕ → ℕ → Instr) (meant area : Area) (items : ℕ) (old : Writer) (one two three : List Instr) → shown ≡ index → area ≡ meant
+    → items ≡ unwrap_or area.items 0
     → one ≡ old.instrs ++ code_of p old.scope.slots shown (length old.instrs) → two ≡ one ++ code_of p old.scope.slots e (length one) → three ≡ two ++ instr area.first items ∷ []
-    → WroteCode (code_of p old.scope.slots index (length old.instrs) ++ code_of p old.scope.slots e (length old.instrs + size_of index) ++ instr meant.first (unwrap_or meant.items 0) ∷ []) old (record old { instrs = three })
+    → WroteCode (code_of p old.scope.slots index (length old.instrs) ++ code_of p old.scope.slots e (length old.instrs + size_of index) ++ instr meant.first (unwrap_or meant.items 0) ∷ []) old
+    (record old { instrs = three })
 item_wrote p e index shown instr meant area items old one two three shown_is area_is items_is first second third =
     let slots = old.scope.slots in
     let at = length old.instrs in

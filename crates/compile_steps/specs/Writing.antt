@@ -21,7 +21,9 @@ use Rattle.compiled_code.specs.Modules.{beginning, routine_slots}
 use Rattle.expression_code.specs.declared.writer.Writer.{Writer}
 use Rattle.compile_steps.specs.declared.statements.Around.{Around}
 use Rattle.expression_code.specs.Counts.{IsSmall}
-use Rattle.expression_code.specs.Lists.{beyond_all, beyond_all_arms, statements_size, step_size, slots_after_all, kinds_of, kinds_of_arms, kinds_of_last, texts_of, texts_of_arms, texts_of_last, steps_of, steps_of_arms, steps_of_last, statements_code, all_arms_code, last_block_code, while_code}
+use Rattle.expression_code.specs.Lists.{beyond_all, beyond_all_arms, statements_size, step_size, slots_after_all, kinds_of, kinds_of_arms}
+use Rattle.expression_code.specs.Lists.{kinds_of_last, texts_of, texts_of_arms, texts_of_last, steps_of, steps_of_arms, steps_of_last}
+use Rattle.expression_code.specs.Lists.{statements_code, all_arms_code, last_block_code, while_code}
 
 -- where the next statement's code begins, and its locals, texts and blocks
 abbrev pub here : Writer → At
@@ -70,7 +72,8 @@ module _ (p : Program) where
   -- for a test, its branch, a block, a statement behind it and a jump, and as many locals as instructions
   abbrev pub TestFits : Expr → List Stmt → Option Form → Writer → Type 0
   TestFits test body next w =
-      IsSmall (length w.instrs + w.scope.next + size_of test + statements_size p body w.scope.slots w.scope.next + step_size p next w.scope.slots (w.scope.next + length (kinds_of body)) + 2)
+      IsSmall (length w.instrs + w.scope.next + size_of test + statements_size p body w.scope.slots w.scope.next + step_size p next
+      w.scope.slots (w.scope.next + length (kinds_of body)) + 2)
 
   -- for the body of a code, in which these locals are visible and so many declared at first
   abbrev pub BodyFits : List Stmt → Slots → ℕ → Type 0
@@ -87,7 +90,8 @@ module _ (p : Program) where
   -- a declaration
   abbrev pub WroteDeclare : Type' → Text → Expr → Writer → Writer → Type 0
   WroteDeclare ty name e old new =
-      Wrote (code_of p old.scope.slots e (length old.instrs) ++ i.Store old.scope.next ∷ []) (with_slot old.scope.slots name old.scope.next (kind_of ty)) 1 0 0 old new
+      Wrote (code_of p old.scope.slots e (length old.instrs) ++ i.Store old.scope.next ∷ [])
+      (with_slot old.scope.slots name old.scope.next (kind_of ty)) 1 0 0 old new
 
   -- A test in front of a block: where it is false, it leads on behind the jump that stands behind the block and, if there is one, behind a statement.
   pub record WroteTest (test : Expr) (body : List Stmt) (next : Option Form) (around : Around) (old new : Writer) : Type 0 where
@@ -99,33 +103,41 @@ module _ (p : Program) where
   -- a line
   abbrev pub WrotePrint : List Item → Writer → Writer → Type 0
   WrotePrint items old new =
-      Wrote (items_code p old.scope.slots items (length old.instrs) ++ i.Print (printed_items p old.scope.slots items old.text) ∷ []) old.scope.slots 0 (length (item_texts items)) 0 old new
+      Wrote (items_code p old.scope.slots items (length old.instrs) ++ i.Print (printed_items p old.scope.slots items old.text) ∷ [])
+      old.scope.slots 0 (length (item_texts items)) 0 old new
 
   -- a step
   abbrev pub WroteStep : List RoutineBlock → Writer → Writer → Type 0
-  WroteStep blocks old new = Wrote (widths_code p old.scope.slots blocks (length old.instrs) ++ i.Par old.block (length blocks) ∷ []) old.scope.slots 0 0 (length blocks) old new
+  WroteStep blocks old new = Wrote (widths_code p old.scope.slots blocks (length old.instrs) ++ i.Par old.block (length blocks) ∷ [])
+      old.scope.slots 0 0 (length blocks) old new
 
   -- a statement
   abbrev pub WroteForm : Form → Exits → Writer → Writer → Type 0
-  WroteForm f exits old new = Wrote (form_code p f old.scope.slots (here old) exits) (slots_after old.scope.slots old.scope.next f) (length (kinds_in f)) (length (texts_in f)) (length (steps_in f)) old new
+  WroteForm f exits old new = Wrote (form_code p f old.scope.slots (here old) exits) (slots_after old.scope.slots old.scope.next f)
+      (length (kinds_in f)) (length (texts_in f)) (length (steps_in f)) old new
 
   -- statements, one behind the other
   abbrev pub WroteAll : List Stmt → Exits → Writer → Writer → Type 0
   WroteAll body exits old new =
-      Wrote (statements_code p body old.scope.slots (here old) exits) (slots_after_all old.scope.slots old.scope.next body) (length (kinds_of body)) (length (texts_of body)) (length (steps_of body)) old new
+      Wrote (statements_code p body old.scope.slots (here old) exits) (slots_after_all old.scope.slots old.scope.next body)
+      (length (kinds_of body)) (length (texts_of body)) (length (steps_of body)) old new
 
   -- the statements of a block, whose locals are not visible behind it
   abbrev pub WroteBlock : List Stmt → Exits → Writer → Writer → Type 0
-  WroteBlock body exits old new = Wrote (statements_code p body old.scope.slots (here old) exits) old.scope.slots (length (kinds_of body)) (length (texts_of body)) (length (steps_of body)) old new
+  WroteBlock body exits old new = Wrote (statements_code p body old.scope.slots (here old) exits) old.scope.slots (length (kinds_of body))
+      (length (texts_of body)) (length (steps_of body)) old new
 
   -- the arms of an `if` that ends at this place
   abbrev pub WroteArms : List Arm → Exits → ℕ → Writer → Writer → Type 0
-  WroteArms arms exits end old new = Wrote (all_arms_code p arms old.scope.slots (here old) exits end) old.scope.slots (length (kinds_of_arms arms)) (length (texts_of_arms arms)) (length (steps_of_arms arms)) old new
+  WroteArms arms exits end old new = Wrote (all_arms_code p arms old.scope.slots (here old) exits end) old.scope.slots
+      (length (kinds_of_arms arms)) (length (texts_of_arms arms)) (length (steps_of_arms arms)) old new
 
   -- the last block of an `if`, if there is one
   abbrev pub WroteLast : Option (List Stmt) → Exits → Writer → Writer → Type 0
-  WroteLast last exits old new = Wrote (last_block_code p last old.scope.slots (here old) exits) old.scope.slots (length (kinds_of_last last)) (length (texts_of_last last)) (length (steps_of_last last)) old new
+  WroteLast last exits old new = Wrote (last_block_code p last old.scope.slots (here old) exits) old.scope.slots
+      (length (kinds_of_last last)) (length (texts_of_last last)) (length (steps_of_last last)) old new
 
   -- a `while`
   abbrev pub WroteWhile : Expr → List Stmt → Writer → Writer → Type 0
-  WroteWhile test body old new = Wrote (while_code p test body old.scope.slots (here old)) old.scope.slots (length (kinds_of body)) (length (texts_of body)) (length (steps_of body)) old new
+  WroteWhile test body old new = Wrote (while_code p test body old.scope.slots (here old)) old.scope.slots (length (kinds_of body))
+      (length (texts_of body)) (length (steps_of body)) old new

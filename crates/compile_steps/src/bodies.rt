@@ -53,7 +53,8 @@ fn body_code(
 ) -> Result<Items<Instr>, NoMemory>
     requires shape { StatementsAre names.now body.now }
     requires room { BodyFits names.now body.now scope.slots scope.next }
-    ensures { IfOk result (λ instrs. instrs ≡ statements_code names.now body.now scope.slots (modules.beginning scope.next) (modules.ends_at (statements_size names.now body.now scope.slots scope.next))) }
+    ensures { IfOk result (λ instrs. instrs ≡ statements_code names.now body.now scope.slots (modules.beginning scope.next)
+        (modules.ends_at (statements_size names.now body.now scope.slots scope.next))) }
 {
     let mut w = Writer {
         instrs: Items::new(alloc),

@@ -6,7 +6,8 @@ ghost use Rattle.compiled_code.specs.Sizes.{size_of, place_size, call_size, retu
 ghost use Rattle.compiled_code.specs.Statements as statements;
 ghost use Rattle.expression_code.specs.Lists.{adding_size, StatementsAre, AllArmsAre, LastBlockIs};
 ghost use Rattle.expression_code.specs.Counts.{IsSmall};
-ghost use Rattle.compile_steps.specs.Writing.{FormFits, AllFit, ArmsFit, LastFits, WhileFits, TestFits, WroteCode, WroteDeclare, WroteTest, WrotePrint, WroteStep, WroteForm, WroteAll, WroteBlock, WroteArms, WroteLast, WroteWhile};
+ghost use Rattle.compile_steps.specs.Writing.{FormFits, AllFit, ArmsFit, LastFits, WhileFits, TestFits, WroteCode, WroteDeclare, WroteTest};
+ghost use Rattle.compile_steps.specs.Writing.{WrotePrint, WroteStep, WroteForm, WroteAll, WroteBlock, WroteArms, WroteLast, WroteWhile};
 ghost use Rattle.std.specs.Option.{option_copied};
 
 use bytecode::Instr;
@@ -24,7 +25,8 @@ use std::alloc::Global;
 /// Writes the code of an assignment.
 fn push_set(w: &mut Writer, names: &Names, place: &Place, value: &Expr) -> Result<(), NoMemory>
     requires { IsSmall (length w.old.instrs + (place_size place.now + size_of value.now)) }
-    ensures { OnOk result (WroteCode (statements.set_code names.now w.old.scope.slots place.now value.now (length w.old.instrs)) w.old w.new) }
+    ensures { OnOk result (WroteCode (statements.set_code names.now w.old.scope.slots place.now value.now (length w.old.instrs)) w.old
+        w.new) }
 {
     match &place.index {
         None => {
@@ -49,7 +51,8 @@ fn push_set(w: &mut Writer, names: &Names, place: &Place, value: &Expr) -> Resul
 /// Writes the code of an adding.
 fn push_add(w: &mut Writer, names: &Names, place: &Place, value: &Expr) -> Result<(), NoMemory>
     requires { IsSmall (length w.old.instrs + adding_size w.old.scope.slots place.now value.now) }
-    ensures { OnOk result (WroteCode (statements.add_to_code names.now w.old.scope.slots place.now value.now (length w.old.instrs)) w.old w.new) }
+    ensures { OnOk result (WroteCode (statements.add_to_code names.now w.old.scope.slots place.now value.now (length w.old.instrs)) w.old
+        w.new) }
 {
     match &place.index {
         None => {

@@ -71,7 +71,8 @@ stand_first (x ∷ given) rest (suc k) v e =
     let two : 0 + suc k ≡ suc k = omega arith in
     subst (λ (n : ℕ). slice_get (x ∷ (given ++ rest)) n ≡ Some v) (sym two) (subst (λ (n : ℕ). slice_get (given ++ rest) n ≡ Some v) one (stand_first given rest k v e))
 
-pub agree_more : (ss : Slots) (ls : Locals) (values : List Val) (name : Text) (n : ℕ) (kind : Ty) (v : Val) → Agree ss ls values → slice_get values n ≡ Some v → Agree (with_slot ss name n kind) (ls ++ record { name = name; value = v } ∷ []) values
+pub agree_more : (ss : Slots) (ls : Locals) (values : List Val) (name : Text) (n : ℕ) (kind : Ty) (v : Val) → Agree ss ls values → slice_get values n ≡ Some v
+    → Agree (with_slot ss name n kind) (ls ++ record { name = name; value = v } ∷ []) values
 agree_more [] [] values name n kind v h e = (refl, e, tt)
 agree_more [] (l ∷ ls) values name n kind v h e = absurd h
 agree_more (s ∷ ss) [] values name n kind v h e = absurd h
@@ -121,19 +122,27 @@ module _ (p : Program) (ok : IsVerified (module_of p)) (r : Bool) (whole : ℕ) 
       abbrev Gave : Option Val → World → State → Type 0
       Gave back' u s' = (s' ≡ record { call = record caller { operands = listed back' ++ caller.operands }; callers = callers; store = u.store; fuel = u.fuel }) × IsGiven f.gives back'
 
-      return_does : (v : Option Val) (place : ℕ) (u : World) → slice_get (function_code p f).instrs place ≡ Some i.Return → Sound p ok r whole (state place (listed v) u) → Does p ok r whole Gave (Gives v u) (state place (listed v) u)
+      return_does : (v : Option Val) (place : ℕ) (u : World) → slice_get (function_code p f).instrs place ≡ Some i.Return → Sound p ok r whole (state place (listed v) u)
+          → Does p ok r whole Gave (Gives v u) (state place (listed v) u)
       return_does v place u h sound = by f.gives v refl sound (at_instr p ok r whole (state place (listed v) u) i.Return h)
         where
-          by : (g : Result') (v' : Option Val) → f.gives ≡ g → Sound p ok r whole (state place (listed v') u) → next (module_of p) (state place (listed v') u) ≡ machine.◌>>=◌ (machine.given_back (gives_of f.gives) (listed v')) (λ vs. Some (leaves (caller ∷ callers) vs (state place (listed v') u)))
+          by : (g : Result') (v' : Option Val) → f.gives ≡ g → Sound p ok r whole (state place (listed v') u)
+              → next (module_of p) (state place (listed v') u) ≡ machine.◌>>=◌ (machine.given_back (gives_of f.gives) (listed v'))
+              (λ vs. Some (leaves (caller ∷ callers) vs (state place (listed v') u)))
               → Does p ok r whole Gave (Gives v' u) (state place (listed v') u)
-          by g v' is sound' e = given' g v' is sound' (e ∙ ap (λ (x : Result'). machine.◌>>=◌ (machine.given_back (gives_of x) (listed v')) (λ vs. Some (leaves (caller ∷ callers) vs (state place (listed v') u)))) is)
+          by g v' is sound' e = given' g v' is sound' (e ∙ ap (λ (x : Result'). machine.◌>>=◌ (machine.given_back (gives_of x) (listed v'))
+              (λ vs. Some (leaves (caller ∷ callers) vs (state place (listed v') u)))) is)
             where
-              on : (v'' : Option Val) → Sound p ok r whole (state place (listed v'') u) → next (module_of p) (state place (listed v'') u) ≡ Some (leaves (caller ∷ callers) (listed v'') (state place (listed v'') u)) → IsGiven f.gives v'' → Does p ok r whole Gave (Gives v'' u) (state place (listed v'') u)
+              on : (v'' : Option Val) → Sound p ok r whole (state place (listed v'') u) → next (module_of p) (state place (listed v'') u) ≡ Some
+                  (leaves (caller ∷ callers) (listed v'') (state place (listed v'') u)) → IsGiven f.gives v'' → Does p ok r whole Gave (Gives v'' u) (state place (listed v'') u)
               on v'' sound'' e' given =
-                  step_does p ok r whole Gave (Gives v'' u) (state place (listed v'') u) (record { call = record caller { operands = listed v'' ++ caller.operands }; callers = callers; store = u.store; fuel = u.fuel }) sound'' e' sound''.kinds
+                  step_does p ok r whole Gave (Gives v'' u) (state place (listed v'') u) (record
+                  { call = record caller { operands = listed v'' ++ caller.operands }; callers = callers; store = u.store; fuel = u.fuel }) sound'' e' sound''.kinds
                   (λ sound3. (record { call = record caller { operands = listed v'' ++ caller.operands }; callers = callers; store = u.store; fuel = u.fuel }, here (module_of p) _, sound3, (refl, given)))
 
-              given' : (g' : Result') (v'' : Option Val) → f.gives ≡ g' → Sound p ok r whole (state place (listed v'') u) → next (module_of p) (state place (listed v'') u) ≡ machine.◌>>=◌ (machine.given_back (gives_of g') (listed v'')) (λ vs. Some (leaves (caller ∷ callers) vs (state place (listed v'') u)))
+              given' : (g' : Result') (v'' : Option Val) → f.gives ≡ g' → Sound p ok r whole (state place (listed v'') u)
+                  → next (module_of p) (state place (listed v'') u) ≡ machine.◌>>=◌ (machine.given_back (gives_of g') (listed v''))
+                  (λ vs. Some (leaves (caller ∷ callers) vs (state place (listed v'') u)))
                   → Does p ok r whole Gave (Gives v'' u) (state place (listed v'') u)
               given' result.Nothing None is' sound'' e' = on None sound'' e' (subst (λ (x : Result'). IsGiven x None) (sym is') tt)
               given' result.Nothing (Some x) is' sound'' e' = no_step p ok r whole (state place (x ∷ []) u) sound'' e'
@@ -150,7 +159,8 @@ module _ (p : Program) (ok : IsVerified (module_of p)) (r : Bool) (whole : ℕ) 
     no_mains : (name : Text) (f : Function) (place : ℕ) (instr : Instr) → function_named p.functions name ≡ Some f → slice_get (function_code p f).instrs place ≡ Some instr → IsNotMains instr
     no_mains name f place instr named_is h = ((ok.functions (function_number p.functions name) (function_code p f) (numbered p p.functions name f named_is)).each place instr h).1
 
-    module _ (levels : ℕ) (calls : CallsDo p ok r whole levels) (name : Text) (f : Function) (named_is : function_named p.functions name ≡ Some f) (given : List Val) (long : length given ≡ length f.params)
+    module _ (levels : ℕ) (calls : CallsDo p ok r whole levels) (name : Text) (f : Function) (named_is : function_named p.functions name ≡ Some f) (given : List Val)
+        (long : length given ≡ length f.params)
         (caller : Call) (callers : List Call) (deep : length callers + suc levels ≡ 64) where
       abbrev code : Code
       code = function_code p f
@@ -174,35 +184,48 @@ module _ (p : Program) (ok : IsVerified (module_of p)) (r : Bool) (whole : ℕ) 
           let c' = ap (λ (ks : List Ty). length ks) others in
           omega (arith, a, b, c', long)
 
-      print_none : (items : List Item) (slots : Slots) (ls : Locals) (ml' : List Val) (at : At) (w : World) → ItemsAre p items → Unit {0} → Agree slots ls ml' → Sound p ok r whole (mk p ok r whole code ml' (caller ∷ callers) at.place [] w)
+      print_none : (items : List Item) (slots : Slots) (ls : Locals) (ml' : List Val) (at : At) (w : World) → ItemsAre p items → Unit {0} → Agree slots ls ml'
+          → Sound p ok r whole (mk p ok r whole code ml' (caller ∷ callers) at.place [] w)
           → Holds code.instrs at.place (items_code p slots items at.place ++ i.Print (printed_items p slots items at.text) ∷ [])
-          → Does p ok r whole (Plain p ok r whole code (caller ∷ callers) levels calls deeper (at.place + (items_size items + 1)) slots (length ml')) (nowhere (Printing items) ls w) (mk p ok r whole code ml' (caller ∷ callers) at.place [] w)
+          → Does p ok r whole (Plain p ok r whole code (caller ∷ callers) levels calls deeper (at.place + (items_size items + 1)) slots (length ml')) (nowhere (Printing items) ls w)
+          (mk p ok r whole code ml' (caller ∷ callers) at.place [] w)
       print_none items slots ls ml' at w is here' agree sound has =
-          absurd (no_mains name f (at.place + items_size items) (i.Print (printed_items p slots items at.text)) named_is (back code.instrs at.place (items_code p slots items at.place) (i.Print (printed_items p slots items at.text) ∷ []) (items_size items) (items_length p slots items at.place) has).0)
+          absurd (no_mains name f (at.place + items_size items) (i.Print (printed_items p slots items at.text)) named_is
+          (back code.instrs at.place (items_code p slots items at.place) (i.Print (printed_items p slots items at.text) ∷ []) (items_size items) (items_length p slots items at.place) has).0)
 
-      par_none : (blocks : List RoutineBlock) (slots : Slots) (ls : Locals) (ml' : List Val) (at : At) (w : World) → WidthsAre p blocks → Unit {0} → Agree slots ls ml' → Sound p ok r whole (mk p ok r whole code ml' (caller ∷ callers) at.place [] w)
+      par_none : (blocks : List RoutineBlock) (slots : Slots) (ls : Locals) (ml' : List Val) (at : At) (w : World) → WidthsAre p blocks → Unit {0} → Agree slots ls ml'
+          → Sound p ok r whole (mk p ok r whole code ml' (caller ∷ callers) at.place [] w)
           → Holds code.instrs at.place (widths_code p slots blocks at.place ++ i.Par at.block (length blocks) ∷ [])
-          → Does p ok r whole (Plain p ok r whole code (caller ∷ callers) levels calls deeper (at.place + (widths_size blocks + 1)) slots (length ml')) (nowhere (Stepping blocks) ls w) (mk p ok r whole code ml' (caller ∷ callers) at.place [] w)
+          → Does p ok r whole (Plain p ok r whole code (caller ∷ callers) levels calls deeper (at.place + (widths_size blocks + 1)) slots (length ml')) (nowhere (Stepping blocks) ls w)
+          (mk p ok r whole code ml' (caller ∷ callers) at.place [] w)
       par_none blocks slots ls ml' at w is here' agree sound has =
-          absurd (no_mains name f (at.place + widths_size blocks) (i.Par at.block (length blocks)) named_is (back code.instrs at.place (widths_code p slots blocks at.place) (i.Par at.block (length blocks) ∷ []) (widths_size blocks) (widths_length p slots blocks at.place) has).0)
+          absurd (no_mains name f (at.place + widths_size blocks) (i.Par at.block (length blocks)) named_is
+          (back code.instrs at.place (widths_code p slots blocks at.place) (i.Par at.block (length blocks) ∷ []) (widths_size blocks) (widths_length p slots blocks at.place) has).0)
 
       -- where the body comes to
       abbrev Body : Went → World → State → Type 0
-      Body = After p ok r whole code (caller ∷ callers) levels calls deeper (0 + row_size p (hidden-the_row-Stmt-1 f.body) (with_params [] f.params) (length f.params)) (ends_at (form_size p (variant.Block f.body) (with_params [] f.params) (length f.params))) (with_params [] f.params)
+      Body = After p ok r whole code (caller ∷ callers) levels calls deeper (0 + row_size p (hidden-the_row-Stmt-1 f.body) (with_params [] f.params) (length f.params))
+          (ends_at (form_size p (variant.Block f.body) (with_params [] f.params) (length f.params))) (with_params [] f.params)
           (slots_after_row (with_params [] f.params) (length f.params) (hidden-the_row-Stmt-1 f.body)) (length ml)
 
       body_does : (w : World) → Sound p ok r whole (entered p ok r whole f given caller callers w)
-          → Does p ok r whole Body (in_order p (calls_to p levels) nowhere (hidden-the_row-Stmt-1 f.body) (bound (map (λ q. q.name.text) f.params) given) w) (entered p ok r whole f given caller callers w)
+          → Does p ok r whole Body (in_order p (calls_to p levels) nowhere (hidden-the_row-Stmt-1 f.body) (bound (map (λ q. q.name.text) f.params) given) w)
+          (entered p ok r whole f given caller callers w)
       body_does w sound =
           let room : length f.params + length (kinds_in (variant.Block f.body)) ≤ length ml = omega (arith, ml_long) in
           let none_more : 0 + length f.params ≡ length f.params = omega arith in
-          row_does p ok r whole code (caller ∷ callers) levels calls deeper (λ t b texts steps. Unit {0}) (λ t b a a' x x' h. tt) (λ t b a a' x x' h. tt) nowhere (of_nowhere Counts counts p (calls_to p levels) (of_calls_to Counts counts p levels)) print_none par_none
-          (hidden-the_row-Stmt-1 f.body) (with_params [] f.params) (bound (map (λ q. q.name.text) f.params) given) ml (beginning (length f.params)) (ends_at (form_size p (variant.Block f.body) (with_params [] f.params) (length f.params))) w
-          (shape.functions name f named_is).body tt (params_agree f.params [] [] ml given long tt (stand_first given (map first_value (drop code.params code.locals)))) (subst (λ (n : ℕ). Ascend 0 (with_params [] f.params) n) none_more (params_ascend f.params [] (omega arith))) room sound
-          (stands (form_code p (variant.Block f.body) (with_params [] f.params) (beginning (length f.params)) (ends_at (form_size p (variant.Block f.body) (with_params [] f.params) (length f.params)))) [] (closing f.gives))
+          row_does p ok r whole code (caller ∷ callers) levels calls deeper (λ t b texts steps. Unit {0}) (λ t b a a' x x' h. tt) (λ t b a a' x x' h. tt) nowhere
+          (of_nowhere Counts counts p (calls_to p levels) (of_calls_to Counts counts p levels)) print_none par_none
+          (hidden-the_row-Stmt-1 f.body) (with_params [] f.params) (bound (map (λ q. q.name.text) f.params) given) ml (beginning (length f.params))
+          (ends_at (form_size p (variant.Block f.body) (with_params [] f.params) (length f.params))) w
+          (shape.functions name f named_is).body tt (params_agree f.params [] [] ml given long tt (stand_first given (map first_value (drop code.params code.locals))))
+          (subst (λ (n : ℕ). Ascend 0 (with_params [] f.params) n) none_more (params_ascend f.params [] (omega arith))) room sound
+          (stands (form_code p (variant.Block f.body) (with_params [] f.params) (beginning (length f.params))
+          (ends_at (form_size p (variant.Block f.body) (with_params [] f.params) (length f.params)))) [] (closing f.gives))
 
       -- the end of the body, where it does not return
-      closing_does : (u : World) (s' : State) → (HasValue f.gives → ⊥) → Sound p ok r whole s' → (ml' : List Val) → s' ≡ mk p ok r whole code ml' (caller ∷ callers) (form_size p (variant.Block f.body) (with_params [] f.params) (length f.params)) [] u
+      closing_does : (u : World) (s' : State) → (HasValue f.gives → ⊥) → Sound p ok r whole s' → (ml' : List Val)
+          → s' ≡ mk p ok r whole code ml' (caller ∷ callers) (form_size p (variant.Block f.body) (with_params [] f.params) (length f.params)) [] u
           → Does p ok r whole (Gave f caller callers ml') (Gives None u) s'
       closing_does u s' none sound ml' is = by f.gives refl none
         where
@@ -221,7 +244,8 @@ module _ (p : Program) (ok : IsVerified (module_of p)) (r : Bool) (whole : ℕ) 
               return_does f caller callers ml' None size u (subst (λ (n : ℕ). slice_get code.instrs n ≡ Some i.Return) at end'.0) sound1)
 
       -- a function gives back what its body ends with
-      gave : (went : Went) (u : World) (s' : State) → (HasValue f.gives → ByReturn went) → Sound p ok r whole s' → Body went u s' → Does p ok r whole (Gave f caller callers ml) (Gives (given_back went.0) u) s'
+      gave : (went : Went) (u : World) (s' : State) → (HasValue f.gives → ByReturn went) → Sound p ok r whole s' → Body went u s'
+          → Does p ok r whole (Gave f caller callers ml) (Gives (given_back went.0) u) s'
       gave (ending.Normal, ls) u s' returns sound q = closing_does u s' (λ h. returns h) sound q.0 (q.1 ∙ ap (λ (n : ℕ). mk p ok r whole code q.0 (caller ∷ callers) n [] u) zero)
         where
           zero : 0 + row_size p (hidden-the_row-Stmt-1 f.body) (with_params [] f.params) (length f.params) ≡ form_size p (variant.Block f.body) (with_params [] f.params) (length f.params)
@@ -229,15 +253,21 @@ module _ (p : Program) (ok : IsVerified (module_of p)) (r : Bool) (whole : ℕ) 
       gave (ending.Break, ls) u s' returns sound q = closing_does u s' (λ h. returns h) sound q.0 q.2
       gave (ending.Continue, ls) u s' returns sound q = closing_does u s' (λ h. returns h) sound q.0 q.2
       gave (ending.Return v, ls) u s' returns sound q =
-          from p ok r whole (Gave f caller callers ml) (Gives v u) s' (mk p ok r whole code q.0 (caller ∷ callers) q.1 (listed v) u) q.3 sound (λ sound1. return_does f caller callers q.0 v q.1 u q.2 sound1)
+          from p ok r whole (Gave f caller callers ml) (Gives v u) s' (mk p ok r whole code q.0 (caller ∷ callers) q.1 (listed v) u) q.3 sound
+          (λ sound1. return_does f caller callers q.0 v q.1 u q.2 sound1)
 
       -- what the function's code does, called with these arguments
       function_does : (w : World) → Sound p ok r whole (entered p ok r whole f given caller callers w)
-          → Does p ok r whole (λ back' u s'. (s' ≡ record { call = record caller { operands = listed back' ++ caller.operands }; callers = callers; store = u.store; fuel = u.fuel }) × IsGiven f.gives back') (run_function p (calls_to p levels) (Some f) given w) (entered p ok r whole f given caller callers w)
+          → Does p ok r whole (λ back' u s'. (s' ≡ record { call = record caller { operands = listed back' ++ caller.operands }; callers = callers; store = u.store; fuel = u.fuel })
+          × IsGiven f.gives back') (run_function p (calls_to p levels) (Some f) given w) (entered p ok r whole f given caller callers w)
       function_does w sound =
-          subst (λ (run : Locals → Run Went). Does p ok r whole (Gave f caller callers ml) ((run (bound (map (λ q. q.name.text) f.params) given) >>= (λ went. pure (given_back went.0))) w) (entered p ok r whole f given caller callers w)) (in_order_is p (calls_to p levels) nowhere f.body)
-          (then_does p ok r whole (λ went u s'. (HasValue f.gives → ByReturn went) × Body went u s') (Gave f caller callers ml) (in_order p (calls_to p levels) nowhere (hidden-the_row-Stmt-1 f.body) (bound (map (λ q. q.name.text) f.params) given) w) (λ went. pure (given_back went.0)) (entered p ok r whole f given caller callers w)
-          (with_all (λ went. HasValue f.gives → ByReturn went) Body (in_order p (calls_to p levels) nowhere (hidden-the_row-Stmt-1 f.body) (bound (map (λ q. q.name.text) f.params) given) w) (entered p ok r whole f given caller callers w) (returning w) (body_does w sound))
+          subst (λ (run : Locals → Run Went). Does p ok r whole (Gave f caller callers ml) ((run (bound (map (λ q. q.name.text) f.params) given) >>= (λ went. pure (given_back went.0))) w)
+          (entered p ok r whole f given caller callers w)) (in_order_is p (calls_to p levels) nowhere f.body)
+          (then_does p ok r whole (λ went u s'. (HasValue f.gives → ByReturn went) × Body went u s') (Gave f caller callers ml)
+          (in_order p (calls_to p levels) nowhere (hidden-the_row-Stmt-1 f.body) (bound (map (λ q. q.name.text) f.params) given) w) (λ went. pure (given_back went.0))
+          (entered p ok r whole f given caller callers w)
+          (with_all (λ went. HasValue f.gives → ByReturn went) Body (in_order p (calls_to p levels) nowhere (hidden-the_row-Stmt-1 f.body) (bound (map (λ q. q.name.text) f.params) given) w)
+          (entered p ok r whole f given caller callers w) (returning w) (body_does w sound))
           (λ went u s' sound' q. gave went u s' q.0 sound' q.1))
         where
           all_if : {A : Type 0} (P : A → Type 0) (o : Outcome A) (g : Result') → (HasValue g → All P o) → All (λ a. HasValue g → P a) o
@@ -246,7 +276,8 @@ module _ (p : Program) (ok : IsVerified (module_of p)) (r : Bool) (whole : ℕ) 
           all_if P (ShowsLine line rest) g h = all_if P rest g h
           all_if P (OpensStep job rest) g h = λ later. all_if P (rest later) g (λ has. h has later)
 
-          returning : (u : World) → All (λ went. HasValue f.gives → ByReturn went) (in_order p (calls_to p levels) nowhere (hidden-the_row-Stmt-1 f.body) (bound (map (λ q. q.name.text) f.params) given) u)
+          returning : (u : World) → All (λ went. HasValue f.gives → ByReturn went) (in_order p (calls_to p levels) nowhere (hidden-the_row-Stmt-1 f.body)
+              (bound (map (λ q. q.name.text) f.params) given) u)
           returning u = all_if ByReturn (in_order p (calls_to p levels) nowhere (hidden-the_row-Stmt-1 f.body) (bound (map (λ q. q.name.text) f.params) given) u) f.gives (λ has.
               let is = (shape.functions name f named_is).returns has in
               row_ends p (calls_to p levels) (hidden-the_row-Stmt-1 f.body) (bound (map (λ q. q.name.text) f.params) given) u is.0 is.1)

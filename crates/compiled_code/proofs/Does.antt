@@ -92,11 +92,13 @@ module _ (p : Program) (ok : IsVerified (module_of p)) (r : Bool) (whole : ℕ) 
       (does.0, does.1, does.2, does.3, does.4, does.5, λ later kinds. then_does Q Post (rest later) next (record does.0 { store = Main later }) (does.6 later kinds) go)
 
   -- one step, and what the machine does behind it
-  pub step_does : {A : Type 0} (Post : A → World → State → Type 0) (o : Outcome A) (s s' : State) → Sound s → next (module_of p) s ≡ Some (On s') → HasKinds p (memory_in s'.store) → (Sound s' → Does Post o s') → Does Post o s
+  pub step_does : {A : Type 0} (Post : A → World → State → Type 0) (o : Outcome A) (s s' : State) → Sound s → next (module_of p) s ≡ Some (On s') → HasKinds p (memory_in s'.store)
+      → (Sound s' → Does Post o s') → Does Post o s
   step_does Post o s s' sound e kinds go = after_run Post o s s' (one (module_of p) s s' e) (go (one_sound s s' sound e kinds))
 
   -- a step that traps
-  pub trap_does : {A : Type 0} (Post : A → World → State → Type 0) (cause : Cause) (w : World) (s : State) → next (module_of p) s ≡ Some (Traps cause w.store w.fuel) → Does {A = A} Post (Stops cause w) s
+  pub trap_does : {A : Type 0} (Post : A → World → State → Type 0) (cause : Cause) (w : World) (s : State) → next (module_of p) s ≡ Some (Traps cause w.store w.fuel)
+      → Does {A = A} Post (Stops cause w) s
   trap_does Post cause w s e = one_traps (module_of p) s cause w.store w.fuel e
 
   -- there is a step

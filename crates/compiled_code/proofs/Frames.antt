@@ -88,7 +88,8 @@ below from (s ∷ ss) to (l ∷ ls) values n x up le h =
     ascend_ends from' (t ∷ ts) to' h' = let more = ascend_ends (suc t.number) ts to' h'.1 in let le' = h'.0 in omega (arith, more, le')
 
 -- another value for a local, in its slot
-pub set_agrees : (from : ℕ) (ss : Slots) (to : ℕ) (ls : Locals) (values : List Val) (name : Text) (s : Slot) (x : Val) → Ascend from ss to → Agree ss ls values → slot_of ss name ≡ Some s → Agree ss (set_local ls name x) (slice_set values s.number x)
+pub set_agrees : (from : ℕ) (ss : Slots) (to : ℕ) (ls : Locals) (values : List Val) (name : Text) (s : Slot) (x : Val) → Ascend from ss to → Agree ss ls values → slot_of ss name ≡ Some s
+    → Agree ss (set_local ls name x) (slice_set values s.number x)
 set_agrees from [] to [] values name s x up h e = tt
 set_agrees from [] to (l ∷ ls) values name s x up h e = absurd h
 set_agrees from (t ∷ ss) to [] values name s x up h e = absurd h
@@ -104,7 +105,8 @@ set_agrees from (t ∷ ss) to (l ∷ ls) values name s x up h e =
         which true same more = let is : u ≡ s' = cc in subst (λ (z : Slot). from' ≤ z.number) is h'.0
         which false same more = let far = more same in let le' = h'.0 in omega (arith, far, le')
 
-    by : (b : Bool) → (if b then Some t else slot_of ss name) ≡ Some s → (slot_of ss name ≡ Some s → Agree ss (set_local ls name x) (slice_set values s.number x)) → (slot_of ss name ≡ Some s → suc t.number ≤ s.number) → Agree (t ∷ ss) (if b then record l { value = x } ∷ ls else l ∷ set_local ls name x) (slice_set values s.number x)
+    by : (b : Bool) → (if b then Some t else slot_of ss name) ≡ Some s → (slot_of ss name ≡ Some s → Agree ss (set_local ls name x) (slice_set values s.number x))
+        → (slot_of ss name ≡ Some s → suc t.number ≤ s.number) → Agree (t ∷ ss) (if b then record l { value = x } ∷ ls else l ∷ set_local ls name x) (slice_set values s.number x)
     by true same more far =
         let is : t ≡ s = cc in
         subst (λ (z : Slot). Agree (t ∷ ss) (record l { value = x } ∷ ls) (slice_set values z.number x)) is
@@ -115,7 +117,8 @@ set_agrees from (t ∷ ss) to (l ∷ ls) values name s x up h e =
         (h.0, set_other values s.number t.number x apart ∙ h.1, more same)
 
 -- one more local, in a slot behind all others
-pub declare_agrees : (from : ℕ) (ss : Slots) (to : ℕ) (ls : Locals) (values : List Val) (name : Text) (kind : Ty) (x old : Val) → Ascend from ss to → Agree ss ls values → slice_get values to ≡ Some old
+pub declare_agrees : (from : ℕ) (ss : Slots) (to : ℕ) (ls : Locals) (values : List Val) (name : Text) (kind : Ty) (x old : Val) → Ascend from ss to → Agree ss ls values
+    → slice_get values to ≡ Some old
     → Agree (with_slot ss name to kind) (declare ls name x) (slice_set values to x)
 declare_agrees from [] to [] values name kind x old up h e = (refl, set_same values to x old e, tt)
 declare_agrees from [] to (l ∷ ls) values name kind x old up h e = absurd h

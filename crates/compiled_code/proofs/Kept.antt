@@ -44,7 +44,8 @@ listed_tally (w ∷ memory) from (suc a) e = later w.kind (listed_tally memory (
     same : from + suc a ≡ suc from + a
     same = omega arith
 
-    later : (kind : WordKind) → list_any (λ t. t == suc from + a) (tallies_from (suc from) memory) ≡ true → list_any (λ t. t == from + suc a) (with_tally kind from (tallies_from (suc from) memory)) ≡ true
+    later : (kind : WordKind) → list_any (λ t. t == suc from + a) (tallies_from (suc from) memory) ≡ true
+        → list_any (λ t. t == from + suc a) (with_tally kind from (tallies_from (suc from) memory)) ≡ true
     later Ordinary h = ap (λ (n : ℕ). list_any (λ t. t == n) (tallies_from (suc from) memory)) same ∙ h
     later Tally h =
         ap (λ (b : Bool). b || list_any (λ t. t == from + suc a) (tallies_from (suc from) memory)) (ne_eqb from (from + suc a) (λ e'. omega (arith, e')))

@@ -14,7 +14,8 @@ use Rattle.csl_tree.specs.declared.program.Item.{Item}
 use Rattle.csl_tree.specs.declared.program.Item.TheVariants as item
 use Rattle.csl_tree.specs.declared.program.Arm.{Arm'}
 use Rattle.csl_tree.specs.declared.program.RoutineBlock.{RoutineBlock, RoutineBlock'}
-use Rattle.csl_tree.specs.declared.program.Form.{Form, Declare, Set, AddTo, If', While', For', Break, Continue, Return, Assert, Block', Print, Par', Row_of-Arm, end_of-Arm, more_of-Arm, Row_of-Stmt, end_of-Stmt, more_of-Stmt, Held-Form-If-1}
+use Rattle.csl_tree.specs.declared.program.Form.{Form, Declare, Set, AddTo, If', While', For', Break, Continue, Return, Assert, Block', Print, Par', Row_of-Arm, end_of-Arm, more_of-Arm, Row_of-Stmt}
+use Rattle.csl_tree.specs.declared.program.Form.{end_of-Stmt, more_of-Stmt, Held-Form-If-1}
 use Rattle.csl_tree.specs.declared.program.Form as form
 use Rattle.csl_meaning.specs.Effect.{function_named, blocks_in}
 use Rattle.bytecode.specs.declared.instr.Instr.{Instr}
@@ -23,10 +24,12 @@ use Rattle.csl_meaning.specs.declared.state.Area.{Area}
 use Rattle.csl_meaning.specs.Layout.{area_of}
 use Rattle.csl_meaning.specs.Value.{declared}
 use Rattle.compiled_code.specs.Slots.{Slot, Slots, slot_of}
-use Rattle.compiled_code.specs.Sizes.{kinds_in, kinds_in_arms, value_size, boxed_size, place_size, values_size, call_size, size_of, operator_size, items_size, widths_size, returned_size, drop_size, given_by}
+use Rattle.compiled_code.specs.Sizes.{kinds_in, kinds_in_arms, value_size, boxed_size, place_size, values_size, call_size, size_of, operator_size, items_size, widths_size, returned_size, drop_size}
+use Rattle.compiled_code.specs.Sizes.{given_by}
 use Rattle.compiled_code.specs.Places.{slots_after, slots_after_row, add_size, statement_size, form_size, row_size, arms_size, last_size}
 use Rattle.compiled_code.specs.Values.{binary_code, value_code, read_code, call_code, boxed_code, values_code, code_of, binary_instr}
-use Rattle.compiled_code.specs.Statements.{At, Exits, set_code, add_code, add_to_code, return_code, drop_code, statement_code, items_code, widths_code, past, beyond, beyond_row, beyond_arms, form_code, row_code, arms_code, last_code}
+use Rattle.compiled_code.specs.Statements.{At, Exits, set_code, add_code, add_to_code, return_code, drop_code, statement_code, items_code, widths_code, past, beyond, beyond_row, beyond_arms}
+use Rattle.compiled_code.specs.Statements.{form_code, row_code, arms_code, last_code}
 
 -- one more instruction behind
 pub behind : (a : List Instr) (x : Instr) (n : ℕ) → length a ≡ n → length (a ++ x ∷ []) ≡ n + 1
@@ -42,7 +45,8 @@ plain op left right n k e f =
     let q = length-append left right in
     omega (arith, l, q, e, f)
 
-binary_length : (op : BinaryOp) (at n k : ℕ) (left : List Instr) (right : ℕ → List Instr) → length left ≡ n → ((there : ℕ) → length (right there) ≡ k) → length (binary_code op at n k left right) ≡ n + k + operator_size op
+binary_length : (op : BinaryOp) (at n k : ℕ) (left : List Instr) (right : ℕ → List Instr) → length left ≡ n → ((there : ℕ) → length (right there) ≡ k)
+    → length (binary_code op at n k left right) ≡ n + k + operator_size op
 binary_length And at n k left right e f =
     let there = at + n + 1 in
     let l = length-append (left ++ i.Branch (at + n + 1 + k + 1) ∷ right there) (i.Jump (at + n + 1 + k + 2) ∷ i.False ∷ []) in
@@ -63,7 +67,8 @@ module _ (p : Program) (slots : Slots) where
     value_length (Read place) at = read_length place at
     value_length (node.CallOf call) at = call_length call at
     value_length (Unary' op shape a) at = behind (boxed_code p slots a at) _ (boxed_size a) (boxed_length a at)
-    value_length (Binary' op shape a shape' b) at = binary_length op at (boxed_size a) (boxed_size b) (boxed_code p slots a at) (λ there. boxed_code p slots b there) (boxed_length a at) (λ there. boxed_length b there)
+    value_length (Binary' op shape a shape' b) at = binary_length op at (boxed_size a) (boxed_size b) (boxed_code p slots a at) (λ there. boxed_code p slots b there) (boxed_length a at)
+        (λ there. boxed_length b there)
     value_length (Paren' shape a) at = boxed_length a at
 
     read_length : (place : Place) (at : ℕ) → length (read_code p slots place at) ≡ place_size place + 1
@@ -79,7 +84,8 @@ module _ (p : Program) (slots : Slots) where
 
     pub values_length : {n : _} (row : Row_of-Expr n) (at : ℕ) → length (values_code p slots row at) ≡ values_size row
     values_length end_of-Expr at = refl
-    values_length (more_of-Expr where' n rest) at = both (value_code p slots n at) (values_code p slots rest (at + value_size n)) (value_size n) (values_size rest) (value_length n at) (values_length rest (at + value_size n))
+    values_length (more_of-Expr where' n rest) at = both (value_code p slots n at) (values_code p slots rest (at + value_size n)) (value_size n) (values_size rest) (value_length n at)
+        (values_length rest (at + value_size n))
 
   pub expr_length : (e : Expr) (at : ℕ) → length (code_of p slots e at) ≡ size_of e
   expr_length e at = value_length e.node at
@@ -99,14 +105,16 @@ module _ (p : Program) (slots : Slots) where
       let none : size_of e + 1 ≡ 0 + size_of e + 1 = omega arith in
       behind (code_of p slots e at) _ (size_of e) (expr_length e at) ∙ none
   set_code_length (Place' name (Some' shape index)) e at =
-      behind (boxed_code p slots index at ++ code_of p slots e (at + boxed_size index)) _ (boxed_size index + size_of e) (both (boxed_code p slots index at) (code_of p slots e (at + boxed_size index)) (boxed_size index) (size_of e) (boxed_length index at) (expr_length e (at + boxed_size index)))
+      behind (boxed_code p slots index at ++ code_of p slots e (at + boxed_size index)) _ (boxed_size index + size_of e)
+      (both (boxed_code p slots index at) (code_of p slots e (at + boxed_size index)) (boxed_size index) (size_of e) (boxed_length index at) (expr_length e (at + boxed_size index)))
 
   returned_length : (given : Option Expr) (at : ℕ) → length (return_code p slots given at) ≡ returned_size given + 1
   returned_length None at = refl
   returned_length (Some e) at = behind (code_of p slots e at) _ (size_of e) (expr_length e at)
 
   statement_length : (call : Call) (at : ℕ) → length (statement_code p slots call at) ≡ statement_size p call
-  statement_length (Call' name shape args) at = both (call_code p slots (Call' name shape args) at) (drop_code (given_by (function_named p.functions name.text))) (values_size args + 1) (drop_size (given_by (function_named p.functions name.text))) (call_length (Call' name shape args) at) (dropped (given_by (function_named p.functions name.text)))
+  statement_length (Call' name shape args) at = both (call_code p slots (Call' name shape args) at) (drop_code (given_by (function_named p.functions name.text))) (values_size args + 1)
+      (drop_size (given_by (function_named p.functions name.text))) (call_length (Call' name shape args) at) (dropped (given_by (function_named p.functions name.text)))
     where
       dropped : (g : Gives) → length (drop_code g) ≡ drop_size g
       dropped gives.Nothing = refl
@@ -120,9 +128,11 @@ add_code_length None area = refl
 -- the code of an adding is as long as its size
 pub add_to_length : (p : Program) (slots : Slots) (target : Place) (e : Expr) (slot at : ℕ) → length (add_to_code p slots target e at) ≡ form_size p (AddTo target e) slots slot
 add_to_length p slots (Place' name None') e slot at =
-    both (code_of p slots e at) (add_code (slot_of slots name.text) (declared (area_of p.shared name.text))) (size_of e) (add_size (slot_of slots name.text)) (expr_length p slots e at) (add_code_length (slot_of slots name.text) (declared (area_of p.shared name.text)))
+    both (code_of p slots e at) (add_code (slot_of slots name.text) (declared (area_of p.shared name.text))) (size_of e) (add_size (slot_of slots name.text)) (expr_length p slots e at)
+    (add_code_length (slot_of slots name.text) (declared (area_of p.shared name.text)))
 add_to_length p slots (Place' name (Some' shape index)) e slot at =
-    behind (boxed_code p slots index at ++ code_of p slots e (at + boxed_size index)) _ (boxed_size index + size_of e) (both (boxed_code p slots index at) (code_of p slots e (at + boxed_size index)) (boxed_size index) (size_of e) (boxed_length p slots index at) (expr_length p slots e (at + boxed_size index)))
+    behind (boxed_code p slots index at ++ code_of p slots e (at + boxed_size index)) _ (boxed_size index + size_of e)
+    (both (boxed_code p slots index at) (code_of p slots e (at + boxed_size index)) (boxed_size index) (size_of e) (boxed_length p slots index at) (expr_length p slots e (at + boxed_size index)))
 
 module _ (p : Program) where
   mutual
@@ -131,7 +141,8 @@ module _ (p : Program) where
     form_length (Set place e) slots at exits = set_code_length p slots place e at.place
     form_length (AddTo place e) slots at exits = add_to_length p slots place e at.slot at.place
     form_length (If' shape arms last) slots at exits =
-        both (arms_code p arms slots at exits (at.place + form_size p (If' shape arms last) slots at.slot)) (last_code p last slots (beyond_arms p slots at arms) exits) (arms_size p arms slots at.slot) (last_size p last slots (at.slot + length (kinds_in_arms arms)))
+        both (arms_code p arms slots at exits (at.place + form_size p (If' shape arms last) slots at.slot)) (last_code p last slots (beyond_arms p slots at arms) exits)
+        (arms_size p arms slots at.slot) (last_size p last slots (at.slot + length (kinds_in_arms arms)))
         (arms_length arms slots at exits (at.place + form_size p (If' shape arms last) slots at.slot)) (last_length last slots (beyond_arms p slots at arms) exits)
     form_length (While' test shape body) slots at exits =
         let back = at.place + size_of test + 1 + row_size p body slots at.slot in
@@ -172,7 +183,8 @@ module _ (p : Program) where
     pub row_length : {n : _} (row : Row_of-Stmt n) (slots : Slots) (at : At) (exits : Exits) → length (row_code p row slots at exits) ≡ row_size p row slots at.slot
     row_length end_of-Stmt slots at exits = refl
     row_length (more_of-Stmt where' f rest) slots at exits =
-        both (form_code p f slots at exits) (row_code p rest (slots_after slots at.slot f) (beyond p slots at f) exits) (form_size p f slots at.slot) (row_size p rest (slots_after slots at.slot f) (at.slot + length (kinds_in f)))
+        both (form_code p f slots at exits) (row_code p rest (slots_after slots at.slot f) (beyond p slots at f) exits) (form_size p f slots at.slot)
+        (row_size p rest (slots_after slots at.slot f) (at.slot + length (kinds_in f)))
         (form_length f slots at exits) (row_length rest (slots_after slots at.slot f) (beyond p slots at f) exits)
 
     pub arms_length : {n : _} (arms : Row_of-Arm n) (slots : Slots) (at : At) (exits : Exits) (end : ℕ) → length (arms_code p arms slots at exits end) ≡ arms_size p arms slots at.slot

@@ -1,5 +1,6 @@
 -- The code of main's own statements: lines and parallel steps.
-use Rattle.std.proofs.Common.{◌≡◌, ℕ, zero, suc, ◌+◌, ◌⊎◌, inl, inr, Bool, true, false, if◌then◌else◌, List, [], ◌∷◌, ◌++◌, length, take, drop, map, Option, Some, None, refl, sym, ap, ◌∙◌, subst, arith, append_assoc}
+use Rattle.std.proofs.Common.{◌≡◌, ℕ, zero, suc, ◌+◌, ◌⊎◌, inl, inr, Bool, true, false, if◌then◌else◌, List, [], ◌∷◌, ◌++◌, length, take, drop, map, Option, Some, None, refl, sym, ap, ◌∙◌, subst}
+use Rattle.std.proofs.Common.{arith, append_assoc}
 use Rattle.std.specs.Prelude.{ℤ, pos, negsuc, slice_get, nat_lt, nat_le, sum}
 use Rattle.std.proofs.lemmas.List.{append-nil, length-map, take-map}
 use Rattle.std.proofs.Math.Seq.{take-append_seam, drop-append_seam}
@@ -115,12 +116,14 @@ taken_numbers [] k ops =
     let e : 0 + k ≡ k = omega arith in
     by (many_numbers k ops) refl (ap (λ (n : ℕ). many_numbers n ops) e)
   where
-    by : (o : Option (List ℤ × List Val)) → many_numbers k ops ≡ o → many_numbers (0 + k) ops ≡ many_numbers k ops → (many_numbers (0 + k) ops ≡ None) ⊎ ((x : List ℤ × List Val) × (many_numbers k ops ≡ Some x) × (many_numbers (0 + k) ops ≡ Some (x.0 ++ [], x.1)))
+    by : (o : Option (List ℤ × List Val)) → many_numbers k ops ≡ o → many_numbers (0 + k) ops ≡ many_numbers k ops
+        → (many_numbers (0 + k) ops ≡ None) ⊎ ((x : List ℤ × List Val) × (many_numbers k ops ≡ Some x) × (many_numbers (0 + k) ops ≡ Some (x.0 ++ [], x.1)))
     by None is same = inl (same ∙ is)
     by (Some x) is same = inr (x, is, same ∙ is ∙ ap (λ (l : List ℤ). Some (l, x.1)) (sym (append-nil x.0)))
 taken_numbers (v ∷ vs) k ops =
     let e : length vs + suc k ≡ suc (length vs) + k = omega arith in
-    from_more (subst (λ (n : ℕ). (many_numbers n (pushed vs (v ∷ ops)) ≡ None) ⊎ ((x : List ℤ × List Val) × (many_numbers (suc k) (v ∷ ops) ≡ Some x) × (many_numbers n (pushed vs (v ∷ ops)) ≡ Some (x.0 ++ map number_in vs, x.1)))) e (taken_numbers vs (suc k) (v ∷ ops)))
+    from_more (subst (λ (n : ℕ). (many_numbers n (pushed vs (v ∷ ops)) ≡ None) ⊎ ((x : List ℤ × List Val) × (many_numbers (suc k) (v ∷ ops) ≡ Some x)
+    × (many_numbers n (pushed vs (v ∷ ops)) ≡ Some (x.0 ++ map number_in vs, x.1)))) e (taken_numbers vs (suc k) (v ∷ ops)))
   where
     last : (u : Val) (x : List ℤ × List Val) → many_numbers (suc k) (u ∷ ops) ≡ Some x → (y : List ℤ × List Val) × (many_numbers k ops ≡ Some y) × (x ≡ (y.0 ++ number_in u ∷ [], y.1))
     last (val.Truth b) x is = absurd cc
@@ -130,8 +133,10 @@ taken_numbers (v ∷ vs) k ops =
         by' None is' = absurd cc
         by' (Some y) is' = let same : (y.0 ++ z ∷ [], y.1) ≡ x = cc in (y, refl, sym same)
 
-    from_more : (many_numbers (suc (length vs) + k) (pushed vs (v ∷ ops)) ≡ None) ⊎ ((x : List ℤ × List Val) × (many_numbers (suc k) (v ∷ ops) ≡ Some x) × (many_numbers (suc (length vs) + k) (pushed vs (v ∷ ops)) ≡ Some (x.0 ++ map number_in vs, x.1)))
-        → (many_numbers (suc (length vs) + k) (pushed vs (v ∷ ops)) ≡ None) ⊎ ((x : List ℤ × List Val) × (many_numbers k ops ≡ Some x) × (many_numbers (suc (length vs) + k) (pushed vs (v ∷ ops)) ≡ Some (x.0 ++ number_in v ∷ map number_in vs, x.1)))
+    from_more : (many_numbers (suc (length vs) + k) (pushed vs (v ∷ ops)) ≡ None) ⊎ ((x : List ℤ × List Val) × (many_numbers (suc k) (v ∷ ops) ≡ Some x)
+        × (many_numbers (suc (length vs) + k) (pushed vs (v ∷ ops)) ≡ Some (x.0 ++ map number_in vs, x.1)))
+        → (many_numbers (suc (length vs) + k) (pushed vs (v ∷ ops)) ≡ None) ⊎ ((x : List ℤ × List Val) × (many_numbers k ops ≡ Some x)
+        × (many_numbers (suc (length vs) + k) (pushed vs (v ∷ ops)) ≡ Some (x.0 ++ number_in v ∷ map number_in vs, x.1)))
     from_more (inl none) = inl none
     from_more (inr found) =
         let y = last v found.0 found.1 in
@@ -183,13 +188,16 @@ module _ (p : Program) (ok : IsVerified (module_of p)) (shape : HasShape p) (who
       abbrev Pieces : List Item → ℕ → ℕ → List Val → List (List ℕ) → World → State → Type 0
       Pieces items text place ops texts u s' =
           (vs : List Val) × (s' ≡ mk' ml place (pushed vs ops) u)
-          × ((machine.pieces (module_of p) (printed_items p slots items text) (pushed vs ops) ≡ None) ⊎ (machine.pieces (module_of p) (printed_items p slots items text) (pushed vs ops) ≡ Some (texts, ops)))
+          × ((machine.pieces (module_of p) (printed_items p slots items text) (pushed vs ops) ≡ None)
+          ⊎ (machine.pieces (module_of p) (printed_items p slots items text) (pushed vs ops) ≡ Some (texts, ops)))
 
       -- one more text in front
       text_piece : (index : ℕ) (name : Text) (items : List Item) (texts : List (List ℕ)) (vs ops : List Val) → slice_get (module_of p).texts index ≡ Some name
           → (machine.pieces (module_of p) (printed_items p slots items (index + 1)) vs ≡ None) ⊎ (machine.pieces (module_of p) (printed_items p slots items (index + 1)) vs ≡ Some (texts, ops))
-          → (machine.pieces (module_of p) (printed.Text index ∷ printed_items p slots items (index + 1)) vs ≡ None) ⊎ (machine.pieces (module_of p) (printed.Text index ∷ printed_items p slots items (index + 1)) vs ≡ Some (name ∷ texts, ops))
-      text_piece index name items texts vs ops at (inl none) = inl (ap (λ (o : Option (List (List ℕ) × List Val)). machine.◌>>=◌ o (λ others. machine.◌>>=◌ (slice_get (module_of p).texts index) (λ text. Some (text ∷ others.0, others.1)))) none)
+          → (machine.pieces (module_of p) (printed.Text index ∷ printed_items p slots items (index + 1)) vs ≡ None)
+          ⊎ (machine.pieces (module_of p) (printed.Text index ∷ printed_items p slots items (index + 1)) vs ≡ Some (name ∷ texts, ops))
+      text_piece index name items texts vs ops at (inl none) = inl (ap (λ (o : Option (List (List ℕ) × List Val)). machine.◌>>=◌ o
+          (λ others. machine.◌>>=◌ (slice_get (module_of p).texts index) (λ text. Some (text ∷ others.0, others.1)))) none)
       text_piece index name items texts vs ops at (inr some) =
           inr (ap (λ (o : Option (List (List ℕ) × List Val)). machine.◌>>=◌ o (λ others. machine.◌>>=◌ (slice_get (module_of p).texts index) (λ text. Some (text ∷ others.0, others.1)))) some
           ∙ ap (λ (o : Option Text). machine.◌>>=◌ o (λ text. Some (text ∷ texts, ops))) at)
@@ -198,36 +206,52 @@ module _ (p : Program) (ok : IsVerified (module_of p)) (shape : HasShape p) (who
       value_piece : (kind : Ty) (v : Val) (others : List PrintItem) (texts : List (List ℕ)) (vs ops : List Val)
           → (machine.pieces (module_of p) others vs ≡ None) ⊎ (machine.pieces (module_of p) others vs ≡ Some (texts, v ∷ ops))
           → (machine.pieces (module_of p) (printed_kind kind ∷ others) vs ≡ None) ⊎ (machine.pieces (module_of p) (printed_kind kind ∷ others) vs ≡ Some (shown v ∷ texts, ops))
-      value_piece ty.Int v others texts vs ops (inl none) = inl (ap (λ (o : Option (List (List ℕ) × List Val)). machine.◌>>=◌ o (λ x. machine.◌>>=◌ (number x.1) (λ z. Some (shown (val.Int z.0) ∷ x.0, z.1)))) none)
-      value_piece ty.Int (val.Int z) others texts vs ops (inr some) = inr (ap (λ (o : Option (List (List ℕ) × List Val)). machine.◌>>=◌ o (λ x. machine.◌>>=◌ (number x.1) (λ y. Some (shown (val.Int y.0) ∷ x.0, y.1)))) some)
-      value_piece ty.Int (val.Truth b) others texts vs ops (inr some) = inl (ap (λ (o : Option (List (List ℕ) × List Val)). machine.◌>>=◌ o (λ x. machine.◌>>=◌ (number x.1) (λ y. Some (shown (val.Int y.0) ∷ x.0, y.1)))) some)
-      value_piece ty.Bool v others texts vs ops (inl none) = inl (ap (λ (o : Option (List (List ℕ) × List Val)). machine.◌>>=◌ o (λ x. machine.◌>>=◌ (truth x.1) (λ z. Some (shown (val.Truth z.0) ∷ x.0, z.1)))) none)
-      value_piece ty.Bool (val.Truth b) others texts vs ops (inr some) = inr (ap (λ (o : Option (List (List ℕ) × List Val)). machine.◌>>=◌ o (λ x. machine.◌>>=◌ (truth x.1) (λ y. Some (shown (val.Truth y.0) ∷ x.0, y.1)))) some)
-      value_piece ty.Bool (val.Int z) others texts vs ops (inr some) = inl (ap (λ (o : Option (List (List ℕ) × List Val)). machine.◌>>=◌ o (λ x. machine.◌>>=◌ (truth x.1) (λ y. Some (shown (val.Truth y.0) ∷ x.0, y.1)))) some)
+      value_piece ty.Int v others texts vs ops (inl none) = inl (ap (λ (o : Option (List (List ℕ) × List Val)). machine.◌>>=◌ o
+          (λ x. machine.◌>>=◌ (number x.1) (λ z. Some (shown (val.Int z.0) ∷ x.0, z.1)))) none)
+      value_piece ty.Int (val.Int z) others texts vs ops (inr some) = inr (ap (λ (o : Option (List (List ℕ) × List Val)). machine.◌>>=◌ o
+          (λ x. machine.◌>>=◌ (number x.1) (λ y. Some (shown (val.Int y.0) ∷ x.0, y.1)))) some)
+      value_piece ty.Int (val.Truth b) others texts vs ops (inr some) = inl (ap (λ (o : Option (List (List ℕ) × List Val)). machine.◌>>=◌ o
+          (λ x. machine.◌>>=◌ (number x.1) (λ y. Some (shown (val.Int y.0) ∷ x.0, y.1)))) some)
+      value_piece ty.Bool v others texts vs ops (inl none) = inl (ap (λ (o : Option (List (List ℕ) × List Val)). machine.◌>>=◌ o
+          (λ x. machine.◌>>=◌ (truth x.1) (λ z. Some (shown (val.Truth z.0) ∷ x.0, z.1)))) none)
+      value_piece ty.Bool (val.Truth b) others texts vs ops (inr some) = inr (ap (λ (o : Option (List (List ℕ) × List Val)). machine.◌>>=◌ o
+          (λ x. machine.◌>>=◌ (truth x.1) (λ y. Some (shown (val.Truth y.0) ∷ x.0, y.1)))) some)
+      value_piece ty.Bool (val.Int z) others texts vs ops (inr some) = inl (ap (λ (o : Option (List (List ℕ) × List Val)). machine.◌>>=◌ o
+          (λ x. machine.◌>>=◌ (truth x.1) (λ y. Some (shown (val.Truth y.0) ∷ x.0, y.1)))) some)
 
-      items_do : (items : List Item) (text block place : ℕ) (ops : List Val) (w : World) → ItemsAre p items → Listed p text block (item_texts items) [] → Sound p ok false whole (mk' ml place ops w) → Holds c.instrs place (items_code p slots items place)
+      items_do : (items : List Item) (text block place : ℕ) (ops : List Val) (w : World) → ItemsAre p items → Listed p text block (item_texts items) [] → Sound p ok false whole (mk' ml place ops w)
+          → Holds c.instrs place (items_code p slots items place)
           → Does p ok false whole (Pieces items text (place + items_size items) ops) (pieces p (calls_to p 64) ls items w) (mk' ml place ops w)
       items_do [] text block place ops w is at sound has =
           let same : place ≡ place + 0 = omega arith in
           (mk' ml place ops w, here (module_of p) (mk' ml place ops w), sound, ([], ap (λ (n : ℕ). mk' ml n ops w) same, inr refl))
       items_do (item.Text name ∷ rest) text block place ops w is at sound has =
           let one : text + length (name.text ∷ []) ≡ text + 1 = refl in
-          let first : slice_get (texts_in (variant.Block p.main)) text ≡ Some name.text = let e : text + 0 ≡ text = omega arith in ap (λ (n : ℕ). slice_get (texts_in (variant.Block p.main)) n) (sym e) ∙ sym (get_drop text 0 (texts_in (variant.Block p.main))) ∙ ap (λ (l : List Text). slice_get l 0) at.texts_are in
-          then_does p ok false whole (Pieces rest (text + 1) (place + items_size rest) ops) (Pieces (item.Text name ∷ rest) text (place + items_size rest) ops) (pieces p (calls_to p 64) ls rest w) (λ more. pure (name.text ∷ more)) (mk' ml place ops w)
+          let first : slice_get (texts_in (variant.Block p.main)) text ≡ Some name.text = let e : text + 0 ≡ text = omega arith in ap (λ (n : ℕ). slice_get (texts_in (variant.Block p.main)) n) (sym e)
+          ∙ sym (get_drop text 0 (texts_in (variant.Block p.main))) ∙ ap (λ (l : List Text). slice_get l 0) at.texts_are in
+          then_does p ok false whole (Pieces rest (text + 1) (place + items_size rest) ops) (Pieces (item.Text name ∷ rest) text (place + items_size rest) ops) (pieces p (calls_to p 64) ls rest w)
+          (λ more. pure (name.text ∷ more)) (mk' ml place ops w)
           (items_do rest (text + 1) (block + 0) place ops w is (listed_back p text block (name.text ∷ []) (item_texts rest) [] [] at) sound has) (λ texts u s' sound' q.
           (s', here (module_of p) s', sound', (q.0, q.1, text_piece text name.text rest texts (pushed q.0 ops) ops first q.2)))
       items_do (item.Value e ∷ rest) text block place ops w is at sound has =
           let same : place + size_of e + items_size rest ≡ place + (size_of e + items_size rest) = omega arith in
-          then_does p ok false whole (Left p ok false whole c ml [] (place + size_of e) ops) (Pieces (item.Value e ∷ rest) text (place + (size_of e + items_size rest)) ops) (value_of p (calls_to p 64) ls e w) (λ v. pieces p (calls_to p 64) ls rest >>= (λ more. pure (shown v ∷ more))) (mk' ml place ops w)
-          (value_does p ok false whole c ml [] slots ls agree 64 calls deep e.node place ops w is.0 sound (front c.instrs place (code_of p slots e place) (items_code p slots rest (place + size_of e)) has)) (λ v u s' sound' q.
-          from p ok false whole (Pieces (item.Value e ∷ rest) text (place + (size_of e + items_size rest)) ops) ((pieces p (calls_to p 64) ls rest >>= (λ more. pure (shown v ∷ more))) u) s' (mk' ml (place + size_of e) (v ∷ ops) u) q sound' (λ sound1.
-          then_does p ok false whole (Pieces rest text (place + size_of e + items_size rest) (v ∷ ops)) (Pieces (item.Value e ∷ rest) text (place + (size_of e + items_size rest)) ops) (pieces p (calls_to p 64) ls rest u) (λ more. pure (shown v ∷ more)) (mk' ml (place + size_of e) (v ∷ ops) u)
-          (items_do rest text block (place + size_of e) (v ∷ ops) u is.1 at sound1 (back c.instrs place (code_of p slots e place) (items_code p slots rest (place + size_of e)) (size_of e) (expr_length p slots e place) has)) (λ texts x s'' sound'' q'.
+          then_does p ok false whole (Left p ok false whole c ml [] (place + size_of e) ops) (Pieces (item.Value e ∷ rest) text (place + (size_of e + items_size rest)) ops)
+          (value_of p (calls_to p 64) ls e w) (λ v. pieces p (calls_to p 64) ls rest >>= (λ more. pure (shown v ∷ more))) (mk' ml place ops w)
+          (value_does p ok false whole c ml [] slots ls agree 64 calls deep e.node place ops w is.0 sound
+          (front c.instrs place (code_of p slots e place) (items_code p slots rest (place + size_of e)) has)) (λ v u s' sound' q.
+          from p ok false whole (Pieces (item.Value e ∷ rest) text (place + (size_of e + items_size rest)) ops) ((pieces p (calls_to p 64) ls rest >>= (λ more. pure (shown v ∷ more))) u) s'
+          (mk' ml (place + size_of e) (v ∷ ops) u) q sound' (λ sound1.
+          then_does p ok false whole (Pieces rest text (place + size_of e + items_size rest) (v ∷ ops)) (Pieces (item.Value e ∷ rest) text (place + (size_of e + items_size rest)) ops)
+          (pieces p (calls_to p 64) ls rest u) (λ more. pure (shown v ∷ more)) (mk' ml (place + size_of e) (v ∷ ops) u)
+          (items_do rest text block (place + size_of e) (v ∷ ops) u is.1 at sound1 (back c.instrs place (code_of p slots e place) (items_code p slots rest (place + size_of e)) (size_of e)
+          (expr_length p slots e place) has)) (λ texts x s'' sound'' q'.
           (s'', here (module_of p) s'', sound'', (v ∷ q'.0, q'.1 ∙ ap (λ (n : ℕ). mk' ml n (pushed q'.0 (v ∷ ops)) x) same, value_piece (kind_in p slots e.node) v (printed_items p slots rest text) texts (pushed q'.0 (v ∷ ops)) ops q'.2)))))
 
       -- a line is shown
-      line_does : (items : List Item) (text place : ℕ) (texts : List (List ℕ)) (vs : List Val) (u : World) → Sound p ok false whole (mk' ml place (pushed vs []) u) → slice_get c.instrs place ≡ Some (i.Print (printed_items p slots items text))
-          → (machine.pieces (module_of p) (printed_items p slots items text) (pushed vs []) ≡ None) ⊎ (machine.pieces (module_of p) (printed_items p slots items text) (pushed vs []) ≡ Some (texts, []))
+      line_does : (items : List Item) (text place : ℕ) (texts : List (List ℕ)) (vs : List Val) (u : World) → Sound p ok false whole (mk' ml place (pushed vs []) u)
+          → slice_get c.instrs place ≡ Some (i.Print (printed_items p slots items text))
+          → (machine.pieces (module_of p) (printed_items p slots items text) (pushed vs []) ≡ None)
+          ⊎ (machine.pieces (module_of p) (printed_items p slots items text) (pushed vs []) ≡ Some (texts, []))
           → Does p ok false whole (Plain p ok false whole c [] 64 calls deep (place + 1) slots (length ml)) ((show (line_of texts) >> pure (ending.Normal, ls)) u) (mk' ml place (pushed vs []) u)
       line_does items text place texts vs u sound h found =
           by found (at_instr p ok false whole (mk' ml place (pushed vs []) u) (i.Print (printed_items p slots items text)) h
@@ -236,7 +260,8 @@ module _ (p : Program) (ok : IsVerified (module_of p)) (shape : HasShape p) (who
           s : State
           s = mk' ml place (pushed vs []) u
 
-          by : (machine.pieces (module_of p) (printed_items p slots items text) (pushed vs []) ≡ None) ⊎ (machine.pieces (module_of p) (printed_items p slots items text) (pushed vs []) ≡ Some (texts, []))
+          by : (machine.pieces (module_of p) (printed_items p slots items text) (pushed vs []) ≡ None)
+              ⊎ (machine.pieces (module_of p) (printed_items p slots items text) (pushed vs []) ≡ Some (texts, []))
               → next (module_of p) s ≡ machine.◌>>=◌ (machine.pieces (module_of p) (printed_items p slots items text) (pushed vs [])) (λ x. Some (Prints (line_of x.0) (on_with s x.1)))
               → Does p ok false whole (Plain p ok false whole c [] 64 calls deep (place + 1) slots (length ml)) ((show (line_of texts) >> pure (ending.Normal, ls)) u) s
           by (inl none) e = no_step p ok false whole s sound (e ∙ ap (λ (o : Option (List (List ℕ) × List Val)). machine.◌>>=◌ o (λ x. Some (Prints (line_of x.0) (on_with s x.1)))) none)
@@ -246,16 +271,22 @@ module _ (p : Program) (ok : IsVerified (module_of p)) (shape : HasShape p) (who
               let sound' : Sound p ok false whole (mk' ml (place + 1) [] u) = record { fits = good.1.0; kinds = sound.kinds } in
               (mk' ml (place + 1) [] u, (s, here (module_of p) s, shows), sound', (mk' ml (place + 1) [] u, here (module_of p) (mk' ml (place + 1) [] u), sound', (refl, (ml, refl, agree, refl))))
 
-    pub print_does : (items : List Item) (slots : Slots) (ls : Locals) (ml : List Val) (at : At) (w : World) → ItemsAre p items → Listed p at.text at.block (item_texts items) [] → Agree slots ls ml → Sound p ok false whole (mk' ml at.place [] w)
+    pub print_does : (items : List Item) (slots : Slots) (ls : Locals) (ml : List Val) (at : At) (w : World) → ItemsAre p items → Listed p at.text at.block (item_texts items) [] → Agree slots ls ml
+        → Sound p ok false whole (mk' ml at.place [] w)
         → Holds c.instrs at.place (items_code p slots items at.place ++ i.Print (printed_items p slots items at.text) ∷ [])
         → Does p ok false whole (Plain p ok false whole c [] 64 calls deep (at.place + (items_size items + 1)) slots (length ml)) (in_main p whole (Printing items) ls w) (mk' ml at.place [] w)
     print_does items slots ls ml at w is listed agree sound has =
         let same : at.place + items_size items + 1 ≡ at.place + (items_size items + 1) = omega arith in
         subst (λ (n : ℕ). Does p ok false whole (Plain p ok false whole c [] 64 calls deep n slots (length ml)) (in_main p whole (Printing items) ls w) (mk' ml at.place [] w)) same
-        (then_does p ok false whole (Pieces slots ls ml agree items at.text (at.place + items_size items) []) (Plain p ok false whole c [] 64 calls deep (at.place + items_size items + 1) slots (length ml)) (pieces p (calls_to p 64) ls items w) (λ texts. show (line_of texts) >> pure (ending.Normal, ls)) (mk' ml at.place [] w)
-        (items_do slots ls ml agree items at.text at.block at.place [] w is listed sound (front c.instrs at.place (items_code p slots items at.place) (i.Print (printed_items p slots items at.text) ∷ []) has)) (λ texts u s' sound' q.
-        from p ok false whole (Plain p ok false whole c [] 64 calls deep (at.place + items_size items + 1) slots (length ml)) ((show (line_of texts) >> pure (ending.Normal, ls)) u) s' (mk' ml (at.place + items_size items) (pushed q.0 []) u) q.1 sound' (λ sound1.
-        line_does slots ls ml agree items at.text (at.place + items_size items) texts q.0 u sound1 (back c.instrs at.place (items_code p slots items at.place) (i.Print (printed_items p slots items at.text) ∷ []) (items_size items) (items_length p slots items at.place) has).0 q.2)))
+        (then_does p ok false whole (Pieces slots ls ml agree items at.text (at.place + items_size items) [])
+        (Plain p ok false whole c [] 64 calls deep (at.place + items_size items + 1) slots (length ml)) (pieces p (calls_to p 64) ls items w)
+        (λ texts. show (line_of texts) >> pure (ending.Normal, ls)) (mk' ml at.place [] w)
+        (items_do slots ls ml agree items at.text at.block at.place [] w is listed sound (front c.instrs at.place (items_code p slots items at.place)
+        (i.Print (printed_items p slots items at.text) ∷ []) has)) (λ texts u s' sound' q.
+        from p ok false whole (Plain p ok false whole c [] 64 calls deep (at.place + items_size items + 1) slots (length ml)) ((show (line_of texts) >> pure (ending.Normal, ls)) u) s'
+        (mk' ml (at.place + items_size items) (pushed q.0 []) u) q.1 sound' (λ sound1.
+        line_does slots ls ml agree items at.text (at.place + items_size items) texts q.0 u sound1
+        (back c.instrs at.place (items_code p slots items at.place) (i.Print (printed_items p slots items at.text) ∷ []) (items_size items) (items_length p slots items at.place) has).0 q.2)))
 
     -- ---- parallel steps
 
@@ -271,11 +302,16 @@ module _ (p : Program) (ok : IsVerified (module_of p)) (shape : HasShape p) (who
           (mk' ml place ops w, here (module_of p) (mk' ml place ops w), sound, ([], ap (λ (n : ℕ). mk' ml n ops w) same, refl, refl))
       widths_do (RoutineBlock' where' width width_name id_name form body ∷ rest) place ops w is sound has =
           let same : place + size_of width + widths_size rest ≡ place + (size_of width + widths_size rest) = omega arith in
-          then_does p ok false whole (Left p ok false whole c ml [] (place + size_of width) ops) (Widths (suc (length rest)) (place + (size_of width + widths_size rest)) ops) (value_of p (calls_to p 64) ls width w) (λ v. widths_of p (calls_to p 64) ls rest >>= (λ more. pure (number_in v ∷ more))) (mk' ml place ops w)
-          (value_does p ok false whole c ml [] slots ls agree 64 calls deep width.node place ops w is.0 sound (front c.instrs place (code_of p slots width place) (widths_code p slots rest (place + size_of width)) has)) (λ v u s' sound' q.
-          from p ok false whole (Widths (suc (length rest)) (place + (size_of width + widths_size rest)) ops) ((widths_of p (calls_to p 64) ls rest >>= (λ more. pure (number_in v ∷ more))) u) s' (mk' ml (place + size_of width) (v ∷ ops) u) q sound' (λ sound1.
-          then_does p ok false whole (Widths (length rest) (place + size_of width + widths_size rest) (v ∷ ops)) (Widths (suc (length rest)) (place + (size_of width + widths_size rest)) ops) (widths_of p (calls_to p 64) ls rest u) (λ more. pure (number_in v ∷ more)) (mk' ml (place + size_of width) (v ∷ ops) u)
-          (widths_do rest (place + size_of width) (v ∷ ops) u is.1 sound1 (back c.instrs place (code_of p slots width place) (widths_code p slots rest (place + size_of width)) (size_of width) (expr_length p slots width place) has)) (λ numbers x s'' sound'' q'.
+          then_does p ok false whole (Left p ok false whole c ml [] (place + size_of width) ops) (Widths (suc (length rest)) (place + (size_of width + widths_size rest)) ops)
+          (value_of p (calls_to p 64) ls width w) (λ v. widths_of p (calls_to p 64) ls rest >>= (λ more. pure (number_in v ∷ more))) (mk' ml place ops w)
+          (value_does p ok false whole c ml [] slots ls agree 64 calls deep width.node place ops w is.0 sound
+          (front c.instrs place (code_of p slots width place) (widths_code p slots rest (place + size_of width)) has)) (λ v u s' sound' q.
+          from p ok false whole (Widths (suc (length rest)) (place + (size_of width + widths_size rest)) ops) ((widths_of p (calls_to p 64) ls rest >>= (λ more. pure (number_in v ∷ more))) u) s'
+          (mk' ml (place + size_of width) (v ∷ ops) u) q sound' (λ sound1.
+          then_does p ok false whole (Widths (length rest) (place + size_of width + widths_size rest) (v ∷ ops)) (Widths (suc (length rest)) (place + (size_of width + widths_size rest)) ops)
+          (widths_of p (calls_to p 64) ls rest u) (λ more. pure (number_in v ∷ more)) (mk' ml (place + size_of width) (v ∷ ops) u)
+          (widths_do rest (place + size_of width) (v ∷ ops) u is.1 sound1 (back c.instrs place (code_of p slots width place) (widths_code p slots rest (place + size_of width)) (size_of width)
+          (expr_length p slots width place) has)) (λ numbers x s'' sound'' q'.
           (s'', here (module_of p) s'', sound'', (v ∷ q'.0, q'.1 ∙ ap (λ (n : ℕ). mk' ml n (pushed q'.0 (v ∷ ops)) x) same, ap (λ (l : List ℤ). number_in v ∷ l) q'.2, ap suc q'.3)))))
 
       module _ (bs : List RoutineBlock) (text block place : ℕ) (vs : List Val) (numbers : List ℤ) (u : World) (long : length vs ≡ length bs) (are : numbers ≡ map number_in vs)
@@ -336,7 +372,8 @@ module _ (p : Program) (ok : IsVerified (module_of p)) (shape : HasShape p) (who
             let few : length ns ≡ length bs = widths_length' numbers ns is ∙ ap (λ (l : List ℤ). length l) are ∙ length-map vs number_in ∙ long in
             unit_or_not ns u.fuel refl few e
 
-        par_step : slice_get c.instrs place ≡ Some (i.Par block (length bs)) → Does p ok false whole After' ((good_widths (step_widths numbers) >>= (λ ns. take_unit >> (open_step p whole bs ns >> pure (ending.Normal, ls)))) u) s
+        par_step : slice_get c.instrs place ≡ Some (i.Par block (length bs)) → Does p ok false whole After'
+            ((good_widths (step_widths numbers) >>= (λ ns. take_unit >> (open_step p whole bs ns >> pure (ending.Normal, ls)))) u) s
         par_step h =
             by_room (nat_lt (length (module_of p).blocks) (block + length bs))
             (at_instr p ok false whole s (i.Par block (length bs)) h ∙ ap (λ (b : Bool). machine.opens_blocks (module_of p) s block (length bs) b) sound.fits.owner)
@@ -344,10 +381,12 @@ module _ (p : Program) (ok : IsVerified (module_of p)) (shape : HasShape p) (who
             counted : length vs + 0 ≡ length bs
             counted = omega (arith, long)
 
-            by_numbers : (many_numbers (length vs + 0) (pushed vs []) ≡ None) ⊎ ((x : List ℤ × List Val) × (many_numbers 0 [] ≡ Some x) × (many_numbers (length vs + 0) (pushed vs []) ≡ Some (x.0 ++ map number_in vs, x.1)))
+            by_numbers : (many_numbers (length vs + 0) (pushed vs []) ≡ None) ⊎ ((x : List ℤ × List Val) × (many_numbers 0 [] ≡ Some x)
+                × (many_numbers (length vs + 0) (pushed vs []) ≡ Some (x.0 ++ map number_in vs, x.1)))
                 → next (module_of p) s ≡ machine.◌>>=◌ (many_numbers (length bs) (pushed vs [])) (λ x. Some (opens block (on_with s x.1) (step_widths x.0)))
                 → Does p ok false whole After' ((good_widths (step_widths numbers) >>= (λ ns. take_unit >> (open_step p whole bs ns >> pure (ending.Normal, ls)))) u) s
-            by_numbers (inl none) e = no_step p ok false whole s sound (e ∙ ap (λ (n : ℕ). machine.◌>>=◌ (many_numbers n (pushed vs [])) (λ x. Some (opens block (on_with s x.1) (step_widths x.0)))) (sym counted) ∙ ap (λ (o : Option (List ℤ × List Val)). machine.◌>>=◌ o (λ x. Some (opens block (on_with s x.1) (step_widths x.0)))) none)
+            by_numbers (inl none) e = no_step p ok false whole s sound (e ∙ ap (λ (n : ℕ). machine.◌>>=◌ (many_numbers n (pushed vs [])) (λ x. Some (opens block (on_with s x.1) (step_widths x.0))))
+                (sym counted) ∙ ap (λ (o : Option (List ℤ × List Val)). machine.◌>>=◌ o (λ x. Some (opens block (on_with s x.1) (step_widths x.0)))) none)
             by_numbers (inr found) e =
                 let empty' : ([], []) ≡ found.0 = let f = found.1 in cc in
                 by_widths (step_widths numbers) refl
@@ -362,16 +401,21 @@ module _ (p : Program) (ok : IsVerified (module_of p)) (shape : HasShape p) (who
             by_room false e = by_numbers (taken_numbers vs 0 []) e
 
     pub par_does : ((b : RoutineBlock) (k : ℕ) → slice_get (steps_in (variant.Block p.main)) k ≡ Some b → RoutineIs p b)
-        → (bs : List RoutineBlock) (slots : Slots) (ls : Locals) (ml : List Val) (at : At) (w : World) → WidthsAre p bs → Listed p at.text at.block [] bs → Agree slots ls ml → Sound p ok false whole (mk' ml at.place [] w)
+        → (bs : List RoutineBlock) (slots : Slots) (ls : Locals) (ml : List Val) (at : At) (w : World) → WidthsAre p bs → Listed p at.text at.block [] bs → Agree slots ls ml
+        → Sound p ok false whole (mk' ml at.place [] w)
         → Holds c.instrs at.place (widths_code p slots bs at.place ++ i.Par at.block (length bs) ∷ [])
         → Does p ok false whole (Plain p ok false whole c [] 64 calls deep (at.place + (widths_size bs + 1)) slots (length ml)) (in_main p whole (Stepping bs) ls w) (mk' ml at.place [] w)
     par_does routines bs slots ls ml at w is listed agree sound has =
         let same : at.place + widths_size bs + 1 ≡ at.place + (widths_size bs + 1) = omega arith in
         subst (λ (n : ℕ). Does p ok false whole (Plain p ok false whole c [] 64 calls deep n slots (length ml)) (in_main p whole (Stepping bs) ls w) (mk' ml at.place [] w)) same
-        (then_does p ok false whole (Widths slots ls ml agree (length bs) (at.place + widths_size bs) []) (Plain p ok false whole c [] 64 calls deep (at.place + widths_size bs + 1) slots (length ml)) (widths_of p (calls_to p 64) ls bs w)
+        (then_does p ok false whole (Widths slots ls ml agree (length bs) (at.place + widths_size bs) []) (Plain p ok false whole c [] 64 calls deep (at.place + widths_size bs + 1) slots (length ml))
+        (widths_of p (calls_to p 64) ls bs w)
         (λ numbers. good_widths (step_widths numbers) >>= (λ ns. take_unit >> (open_step p whole bs ns >> pure (ending.Normal, ls)))) (mk' ml at.place [] w)
         (widths_do slots ls ml agree bs at.place [] w is sound (front c.instrs at.place (widths_code p slots bs at.place) (i.Par at.block (length bs) ∷ []) has)) (λ numbers u s' sound' q.
-        from p ok false whole (Plain p ok false whole c [] 64 calls deep (at.place + widths_size bs + 1) slots (length ml)) ((good_widths (step_widths numbers) >>= (λ ns. take_unit >> (open_step p whole bs ns >> pure (ending.Normal, ls)))) u) s' (mk' ml (at.place + widths_size bs) (pushed q.0 []) u) q.1 sound' (λ sound1.
+        from p ok false whole (Plain p ok false whole c [] 64 calls deep (at.place + widths_size bs + 1) slots (length ml))
+        ((good_widths (step_widths numbers) >>= (λ ns. take_unit >> (open_step p whole bs ns >> pure (ending.Normal, ls)))) u) s' (mk' ml (at.place + widths_size bs) (pushed q.0 []) u) q.1 sound'
+        (λ sound1.
         par_step slots ls ml agree bs at.text at.block (at.place + widths_size bs) q.0 numbers u q.3 q.2
-        (λ b k e. routines b (at.block + k) (sym (get_drop at.block k (steps_in (variant.Block p.main))) ∙ ap (λ (l : List RoutineBlock). slice_get l k) listed.steps_are ∙ get_front bs listed.more_steps k b e)) listed sound1
+        (λ b k e. routines b (at.block + k) (sym (get_drop at.block k (steps_in (variant.Block p.main))) ∙ ap (λ (l : List RoutineBlock). slice_get l k) listed.steps_are
+        ∙ get_front bs listed.more_steps k b e)) listed sound1
         (back c.instrs at.place (widths_code p slots bs at.place) (i.Par at.block (length bs) ∷ []) (widths_size bs) (widths_length p slots bs at.place) has).0)))

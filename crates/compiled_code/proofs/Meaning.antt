@@ -13,7 +13,8 @@ use Rattle.cal_base.specs.Main.{Meaning, meaning_of, going_on, steps_of, steps_b
 use Rattle.csl_tree.specs.declared.program.Program.{Program}
 use Rattle.csl_tree.specs.declared.program.Arm.{Arm'}
 use Rattle.csl_tree.specs.declared.program.RoutineBlock.{RoutineBlock, RoutineBlock'}
-use Rattle.csl_tree.specs.declared.program.Form.{Form, Declare, Set, AddTo, If', While', For', Break, Continue, Return, Assert, Block', Print, Par', Row_of-Arm, end_of-Arm, more_of-Arm, Row_of-Stmt, end_of-Stmt, more_of-Stmt, Held-Form-If-1, Row_of-RoutineBlock, end_of-RoutineBlock, more_of-RoutineBlock}
+use Rattle.csl_tree.specs.declared.program.Form.{Form, Declare, Set, AddTo, If', While', For', Break, Continue, Return, Assert, Block', Print, Par', Row_of-Arm, end_of-Arm, more_of-Arm, Row_of-Stmt}
+use Rattle.csl_tree.specs.declared.program.Form.{end_of-Stmt, more_of-Stmt, Held-Form-If-1, Row_of-RoutineBlock, end_of-RoutineBlock, more_of-RoutineBlock}
 use Rattle.csl_tree.specs.declared.program.Form as form
 use Rattle.csl_tree.specs.declared.program.Form.TheVariants as variant
 use Rattle.csl_tree.specs.declared.program.Form.TheBlock.{hidden-the_row-Stmt-1}
@@ -124,7 +125,8 @@ module _ (p : Program) (ok : IsVerified (module_of p)) (shape : HasShape p) (fue
 
   -- where main's code comes to
   abbrev Body : Went → World → State → Type 0
-  Body = After p ok false fuel c [] 64 (calls p ok shape fuel) (deep p ok shape fuel) (0 + size) (ends_at size) [] (Rattle.compiled_code.specs.Places.slots_after_row [] 0 (hidden-the_row-Stmt-1 p.main)) (length (map machine.first_value (kinds_in (variant.Block p.main))))
+  Body = After p ok false fuel c [] 64 (calls p ok shape fuel) (deep p ok shape fuel) (0 + size) (ends_at size) []
+      (Rattle.compiled_code.specs.Places.slots_after_row [] 0 (hidden-the_row-Stmt-1 p.main)) (length (map machine.first_value (kinds_in (variant.Block p.main))))
 
   whole_main : Listed p 0 0 (texts_in (variant.Block p.main)) (steps_in (variant.Block p.main))
   whole_main = record {
@@ -141,8 +143,10 @@ module _ (p : Program) (ok : IsVerified (module_of p)) (shape : HasShape p) (fue
   body_does =
       let l = length-map (kinds_in (variant.Block p.main)) machine.first_value in
       let room : 0 + length (kinds_in (variant.Block p.main)) ≤ length (map machine.first_value (kinds_in (variant.Block p.main))) = omega (arith, l) in
-      row_does p ok false fuel c [] 64 (calls p ok shape fuel) (deep p ok shape fuel) (Listed p) (listed_front p) (listed_back p) (in_main p fuel) (of_in_main Counts counts p fuel (main_counts p fuel)) (print_does p ok shape fuel c) (par_does p ok shape fuel c (in_form p (variant.Block p.main) shape.main))
-      (hidden-the_row-Stmt-1 p.main) [] [] (map machine.first_value (kinds_in (variant.Block p.main))) (beginning 0) (ends_at size) (first_world p fuel) shape.main whole_main tt (omega arith) room sound
+      row_does p ok false fuel c [] 64 (calls p ok shape fuel) (deep p ok shape fuel) (Listed p) (listed_front p) (listed_back p) (in_main p fuel)
+      (of_in_main Counts counts p fuel (main_counts p fuel)) (print_does p ok shape fuel c) (par_does p ok shape fuel c (in_form p (variant.Block p.main) shape.main))
+      (hidden-the_row-Stmt-1 p.main) [] [] (map machine.first_value (kinds_in (variant.Block p.main))) (beginning 0) (ends_at size) (first_world p fuel) shape.main whole_main tt (omega arith) room
+      sound
       (stands (form_code p (variant.Block p.main) [] (beginning 0) (ends_at size)) [] (i.Return ∷ []))
 
   -- the Return at the end
@@ -154,9 +158,11 @@ module _ (p : Program) (ok : IsVerified (module_of p)) (shape : HasShape p) (fue
       subst (λ (k : ℕ). slice_get c.instrs k ≡ Some i.Return) at (back c.instrs 0 written (i.Return ∷ []) size (form_length p (variant.Block p.main) [] (beginning 0) (ends_at size)) all).0
 
   -- a Return ends main
-  returns : (v : Option Val) (ml : List Val) (place : ℕ) (u : World) → Sound p ok false fuel (mk p ok false fuel c ml [] place (listed v) u) → slice_get c.instrs place ≡ Some i.Return → next m (mk p ok false fuel c ml [] place (listed v) u) ≡ Some (Ends u.store u.fuel)
+  returns : (v : Option Val) (ml : List Val) (place : ℕ) (u : World) → Sound p ok false fuel (mk p ok false fuel c ml [] place (listed v) u) → slice_get c.instrs place ≡ Some i.Return
+      → next m (mk p ok false fuel c ml [] place (listed v) u) ≡ Some (Ends u.store u.fuel)
   returns None ml place u sound' h = at_instr p ok false fuel (mk p ok false fuel c ml [] place [] u) i.Return h
-  returns (Some v) ml place u sound' h = no_step p ok false fuel (mk p ok false fuel c ml [] place (v ∷ []) u) sound' (at_instr p ok false fuel (mk p ok false fuel c ml [] place (v ∷ []) u) i.Return h)
+  returns (Some v) ml place u sound' h = no_step p ok false fuel (mk p ok false fuel c ml [] place (v ∷ []) u) sound'
+      (at_instr p ok false fuel (mk p ok false fuel c ml [] place (v ∷ []) u) i.Return h)
 
   -- what main shows and how it ends, beside the steps that it opens
   abbrev Told : Type 0
@@ -176,7 +182,8 @@ module _ (p : Program) (ok : IsVerified (module_of p)) (shape : HasShape p) (fue
   goes : (steps : ℕ) (s : State) (n : Next) → Reached m begin s → next m s ≡ Some n → From steps s ≡ main_at m fuel steps (λ more later. From more later) (Some n)
   goes steps s n reached e = main_goes_on m ok (first_memory p.shared) fuel fuel steps s reached ∙ ap (λ (o : Option Next). main_at m fuel steps (λ more later. From more later) o) e
 
-  done : (v : Option Val) (ml : List Val) (place : ℕ) (u : World) (steps : ℕ) (s' : State) → u.steps ≡ steps → Reached m begin s' → Sound p ok false fuel s' → s' ≡ mk p ok false fuel c ml [] place (listed v) u → slice_get c.instrs place ≡ Some i.Return
+  done : (v : Option Val) (ml : List Val) (place : ℕ) (u : World) (steps : ℕ) (s' : State) → u.steps ≡ steps → Reached m begin s' → Sound p ok false fuel s'
+      → s' ≡ mk p ok false fuel c ml [] place (listed v) u → slice_get c.instrs place ≡ Some i.Return
       → told (outline.Ends (Done u.steps)) ≡ told (From steps s')
   done v ml place u steps s' e reached sound' is h =
       let t = mk p ok false fuel c ml [] place (listed v) u in
@@ -184,7 +191,8 @@ module _ (p : Program) (ok : IsVerified (module_of p)) (shape : HasShape p) (fue
       ap (λ (k : ℕ). told (outline.Ends (Done k))) e ∙ ap told (sym at) ∙ ap (λ (x : State). told (From steps x)) (sym is)
 
   -- a step that leaves the same goes on the same
-  same_step : (job other : StepJob) (next' : Memory → Told) (next'' : Memory → Told) → job ≡ other → ((later : Memory) → meant job ≡ Ok later → next' later ≡ next'' later) → told_behind job (meant job) next' ≡ told_behind other (meant other) next''
+  same_step : (job other : StepJob) (next' : Memory → Told) (next'' : Memory → Told) → job ≡ other → ((later : Memory) → meant job ≡ Ok later → next' later ≡ next'' later)
+      → told_behind job (meant job) next' ≡ told_behind other (meant other) next''
   same_step job other next' next'' e h = by (meant job) refl ∙ ap (λ (j : StepJob). told_behind j (meant j) next'') e
     where
       by : (r : Result Memory StepFault) → meant job ≡ r → told_behind job r next' ≡ told_behind job r next''
@@ -218,7 +226,8 @@ module _ (p : Program) (ok : IsVerified (module_of p)) (shape : HasShape p) (fue
       let same : job ≡ opened = λ j. record { number = counted.1 j; opening = d.5.opening j; answers = d.5.answers j } in
       same_step job opened (λ later. told (main_of (rest later))) (λ later. told (From (suc steps) (record d.0 { store = Main later }))) same (λ later is.
       let kinds : HasKinds p later = meant_kinds job later is ∙ ap (λ (x : Memory). kinds_of x) d.5.opening ∙ d.4.kinds in
-      means (rest later) (n - 1) (suc steps) (record d.0 { store = Main later }) (counted.3 later) (Then d.3.0 (record d.0 { store = Main later }) (Opens d.1 d.2 d.0) to.1 d.3.2 (later, refl)) (d.6 later kinds))
+      means (rest later) (n - 1) (suc steps) (record d.0 { store = Main later }) (counted.3 later) (Then d.3.0 (record d.0 { store = Main later }) (Opens d.1 d.2 d.0) to.1 d.3.2 (later, refl))
+      (d.6 later kinds))
       ∙ ap told (sym (to.0 ∙ goes steps d.3.0 (Opens d.1 d.2 d.0) to.1 d.3.2))
 
   -- main of the module and main of the program tell the same
@@ -227,7 +236,8 @@ module _ (p : Program) (ok : IsVerified (module_of p)) (shape : HasShape p) (fue
       let first = first_same p in
       let rows = in_order_is p (calls_to p most_levels) (in_main p fuel) p.main in
       ap (λ (memory : Memory). told (From 0 (main_beginning m memory fuel))) first
-      ∙ sym (means (in_order p (calls_to p most_levels) (in_main p fuel) (hidden-the_row-Stmt-1 p.main) [] (first_world p fuel)) fuel 0 begin (subst (λ (run : Locals → Rattle.csl_meaning.specs.Runs.Run Went). Counted fuel 0 (run [] (first_world p fuel))) (sym rows) (run_counted p fuel)) Start body_does)
+      ∙ sym (means (in_order p (calls_to p most_levels) (in_main p fuel) (hidden-the_row-Stmt-1 p.main) [] (first_world p fuel)) fuel 0 begin
+      (subst (λ (run : Locals → Rattle.csl_meaning.specs.Runs.Run Went). Counted fuel 0 (run [] (first_world p fuel))) (sym rows) (run_counted p fuel)) Start body_does)
       ∙ ap (λ (run : Locals → Rattle.csl_meaning.specs.Runs.Run Went). told (main_of (run [] (first_world p fuel)))) rows
 
   -- the module means what the program means

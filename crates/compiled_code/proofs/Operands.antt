@@ -38,14 +38,16 @@ split_parts [] vs parts e = let is : ([], vs) ≡ parts = cc in (subst (λ (x : 
 split_parts (k ∷ ks) [] parts e = absurd cc
 split_parts (k ∷ ks) (v ∷ vs) parts e = by (same_kind k (kind_of v)) e (λ x h. split_parts ks vs x h)
   where
-    after : (o : Option (List Val × List Val)) → ((x : List Val × List Val) → o ≡ Some x → (x.0 ++ x.1 ≡ vs) × (length x.0 ≡ length ks)) → o >>= (λ (x : List Val × List Val). Some (v ∷ x.0, x.1)) ≡ Some parts → (parts.0 ++ parts.1 ≡ v ∷ vs) × (length parts.0 ≡ suc (length ks))
+    after : (o : Option (List Val × List Val)) → ((x : List Val × List Val) → o ≡ Some x → (x.0 ++ x.1 ≡ vs) × (length x.0 ≡ length ks))
+        → o >>= (λ (x : List Val × List Val). Some (v ∷ x.0, x.1)) ≡ Some parts → (parts.0 ++ parts.1 ≡ v ∷ vs) × (length parts.0 ≡ suc (length ks))
     after None found e' = absurd cc
     after (Some x) found e' =
         let same : (v ∷ x.0, x.1) ≡ parts = cc in
         let more = found x refl in
         (subst (λ (y : List Val × List Val). y.0 ++ y.1 ≡ v ∷ vs) same (ap (λ (l : List Val). v ∷ l) more.0), subst (λ (y : List Val × List Val). length y.0 ≡ suc (length ks)) same (ap suc more.1))
 
-    by : (b : Bool) → (if b then (split ks vs >>= (λ (x : List Val × List Val). Some (v ∷ x.0, x.1))) else None) ≡ Some parts → ((x : List Val × List Val) → split ks vs ≡ Some x → (x.0 ++ x.1 ≡ vs) × (length x.0 ≡ length ks)) → (parts.0 ++ parts.1 ≡ v ∷ vs) × (length parts.0 ≡ suc (length ks))
+    by : (b : Bool) → (if b then (split ks vs >>= (λ (x : List Val × List Val). Some (v ∷ x.0, x.1))) else None) ≡ Some parts
+        → ((x : List Val × List Val) → split ks vs ≡ Some x → (x.0 ++ x.1 ≡ vs) × (length x.0 ≡ length ks)) → (parts.0 ++ parts.1 ≡ v ∷ vs) × (length parts.0 ≡ suc (length ks))
     by true e' found = after (split ks vs) found e'
     by false e' found = absurd cc
 
@@ -62,7 +64,8 @@ same_front (y ∷ a) b (x ∷ c) d e l =
     (ap (λ (z : Val). z ∷ a) heads ∙ ap (λ (l' : List Val). x ∷ l') more.0, more.1)
 
 -- so the arguments of a call are split off
-pub arguments_split : (ks : List Ty) (given ops : List Val) (parts : List Val × List Val) → split ks (pushed given ops) ≡ Some parts → length given ≡ length ks → (reverse parts.0 ≡ given) × (parts.1 ≡ ops)
+pub arguments_split : (ks : List Ty) (given ops : List Val) (parts : List Val × List Val) → split ks (pushed given ops) ≡ Some parts → length given ≡ length ks
+    → (reverse parts.0 ≡ given) × (parts.1 ≡ ops)
 arguments_split ks given ops parts e l =
     let found = split_parts ks (pushed given ops) parts e in
     let long : length parts.0 ≡ length (reverse given) = found.1 ∙ sym l ∙ sym (length-reverse given) in
@@ -80,11 +83,13 @@ parameters_length p f = length-reverse _ ∙ firsts f.params
         ∙ length-map qs (λ q. slot_kind q.ty)
 
 -- the function of a name has its number
-pub numbered : (p : Program) (fs : List Function) (name : Text) (f : Function) → function_named fs name ≡ Some f → slice_get (map (λ g. function_code p g) fs) (function_number fs name) ≡ Some (function_code p f)
+pub numbered : (p : Program) (fs : List Function) (name : Text) (f : Function) → function_named fs name ≡ Some f
+    → slice_get (map (λ g. function_code p g) fs) (function_number fs name) ≡ Some (function_code p f)
 numbered p [] name f e = absurd cc
 numbered p (g ∷ fs) name f e = by (bytes_eq g.name.text name) e (λ e'. numbered p fs name f e')
   where
-    by : (b : Bool) → (if b then Some g else function_named fs name) ≡ Some f → (function_named fs name ≡ Some f → slice_get (map (λ h. function_code p h) fs) (function_number fs name) ≡ Some (function_code p f))
+    by : (b : Bool) → (if b then Some g else function_named fs name) ≡ Some f → (function_named fs name ≡ Some f
+        → slice_get (map (λ h. function_code p h) fs) (function_number fs name) ≡ Some (function_code p f))
         → slice_get (function_code p g ∷ map (λ h. function_code p h) fs) (if b then 0 else suc (function_number fs name)) ≡ Some (function_code p f)
     by true same more = ap (λ (o : Option Function). o >>= (λ h. Some (function_code p h))) same
     by false same more = more same

@@ -4,7 +4,8 @@ use Rattle.cal_base.specs.declared.value.Val.{Val}
 use Rattle.cal_base.specs.Memory.{Memory}
 use Rattle.csl_tree.specs.declared.program.Program.{Program}
 use Rattle.csl_tree.specs.declared.program.Arm.{Arm'}
-use Rattle.csl_tree.specs.declared.program.Form.{Form, Declare, Set, AddTo, If', While', For', Break, Continue, Return, Assert, Block', Print, Par', Row_of-Arm, end_of-Arm, more_of-Arm, Row_of-Stmt, end_of-Stmt, more_of-Stmt, Held-Form-If-1}
+use Rattle.csl_tree.specs.declared.program.Form.{Form, Declare, Set, AddTo, If', While', For', Break, Continue, Return, Assert, Block', Print, Par', Row_of-Arm, end_of-Arm, more_of-Arm, Row_of-Stmt}
+use Rattle.csl_tree.specs.declared.program.Form.{end_of-Stmt, more_of-Stmt, Held-Form-If-1}
 use Rattle.csl_tree.specs.declared.program.Form as form
 use Rattle.csl_meaning.specs.declared.state.World.{World}
 use Rattle.csl_meaning.specs.declared.state.Ending.{Ending}
@@ -91,7 +92,8 @@ either_way P false first second u h k = k
 
 module _ (p : Program) (calls : Calls) where
   -- a loop is left normally or by a return
-  turn_normal : (test : Locals → Run Val) (body : Locals → Run Went) (next : Locals → Run Locals) (again : Locals → Run Went) → ((l : Locals) (w : World) → All Normally (again l w)) → (l : Locals) (w : World) → All Normally (turn test body next again l w)
+  turn_normal : (test : Locals → Run Val) (body : Locals → Run Went) (next : Locals → Run Locals) (again : Locals → Run Went) → ((l : Locals) (w : World) → All Normally (again l w))
+      → (l : Locals) (w : World) → All Normally (turn test body next again l w)
   turn_normal test body next again h l w = all_then (Anything Val) Normally (test l w) _ (any (test l w)) (λ v u _. by (truth_in v) u)
     where
       after : (went : Went) (u : World) → All Normally (after_body went (λ inner. next inner >>= again) u)
@@ -106,7 +108,8 @@ module _ (p : Program) (calls : Calls) where
 
   turns_normal : (n : ℕ) (test : Locals → Run Val) (body : Locals → Run Went) (next : Locals → Run Locals) (l : Locals) (w : World) → All Normally (turns n test body next l w)
   turns_normal zero test body next l w = turn_normal test body next _ (λ l' w'. tt) l w
-  turns_normal (suc n) test body next l w = turn_normal test body next _ (λ l' w'. all_then (Anything (Unit {0})) Normally (Rattle.csl_meaning.specs.Runs.take_unit w') _ (any (Rattle.csl_meaning.specs.Runs.take_unit w')) (λ a u _. turns_normal n test body next l' u)) l w
+  turns_normal (suc n) test body next l w = turn_normal test body next _ (λ l' w'. all_then (Anything (Unit {0})) Normally (Rattle.csl_meaning.specs.Runs.take_unit w') _
+      (any (Rattle.csl_meaning.specs.Runs.take_unit w')) (λ a u _. turns_normal n test body next l' u)) l w
 
   asserted : (b : Bool) (ls : Locals) (w : World) → All Normally (assert b ls w)
   asserted true ls w = tt
@@ -134,13 +137,16 @@ module _ (p : Program) (calls : Calls) where
 
     row_stays : {n : _} (row : Row_of-Stmt n) (ls : Locals) (w : World) → RowStays row → All Normally (in_order p calls nowhere row ls w)
     row_stays end_of-Stmt ls w h = tt
-    row_stays (more_of-Stmt where' f rest) ls w h = all_then Normally Normally (effect p calls nowhere f ls w) _ (stays f ls w h.0) (λ went u g. goes_on _ went u g (λ ls' u'. row_stays rest ls' u' h.1))
+    row_stays (more_of-Stmt where' f rest) ls w h = all_then Normally Normally (effect p calls nowhere f ls w) _ (stays f ls w h.0)
+        (λ went u g. goes_on _ went u g (λ ls' u'. row_stays rest ls' u' h.1))
 
-    arms_stay : {n : _} (arms : Row_of-Arm n) (last : Locals → Run Went) (ls : Locals) (w : World) → ArmsStay arms → ((u : World) → All Normally (last ls u)) → All Normally (choose p calls nowhere arms last ls w)
+    arms_stay : {n : _} (arms : Row_of-Arm n) (last : Locals → Run Went) (ls : Locals) (w : World) → ArmsStay arms → ((u : World) → All Normally (last ls u))
+        → All Normally (choose p calls nowhere arms last ls w)
     arms_stay end_of-Arm last ls w h last_ok = last_ok w
     arms_stay (more_of-Arm (Arm' test shape body) rest) last ls w h last_ok =
         all_then (Anything Val) Normally (value_of p calls ls test w) _ (any (value_of p calls ls test w)) (λ v u _. either_way Normally (truth_in v) _ _ u
-        (all_then Normally Normally (in_order p calls nowhere body ls u) _ (row_stays body ls u h.0) (λ went u' g. left Normally (length ls) same_normally went g)) (arms_stay rest last ls u h.1 last_ok))
+        (all_then Normally Normally (in_order p calls nowhere body ls u) _ (row_stays body ls u h.0) (λ went u' g. left Normally (length ls) same_normally went g))
+        (arms_stay rest last ls u h.1 last_ok))
 
     last_stays : (last : Held-Form-If-1) (ls : Locals) (w : World) → LastStays last → All Normally (otherwise p calls nowhere last ls w)
     last_stays form.None' ls w h = tt
@@ -167,13 +173,16 @@ module _ (p : Program) (calls : Calls) where
     pub row_ends : {n : _} (row : Row_of-Stmt n) (ls : Locals) (w : World) → RowStays row → RowEnds row → All ByReturn (in_order p calls nowhere row ls w)
     row_ends end_of-Stmt ls w s h = absurd h
     row_ends (more_of-Stmt where' f rest) ls w s (inl h) = all_then ByReturn ByReturn (effect p calls nowhere f ls w) _ (ends f ls w s.0 h) (λ went u g. returns_on _ went u g)
-    row_ends (more_of-Stmt where' f rest) ls w s (inr h) = all_then Normally ByReturn (effect p calls nowhere f ls w) _ (stays f ls w s.0) (λ went u g. ends_on _ went u g (λ ls' u'. row_ends rest ls' u' s.1 h))
+    row_ends (more_of-Stmt where' f rest) ls w s (inr h) = all_then Normally ByReturn (effect p calls nowhere f ls w) _ (stays f ls w s.0)
+        (λ went u g. ends_on _ went u g (λ ls' u'. row_ends rest ls' u' s.1 h))
 
-    arms_end : {n : _} (arms : Row_of-Arm n) (last : Locals → Run Went) (ls : Locals) (w : World) → ArmsStay arms → ArmsEnd arms → ((u : World) → All ByReturn (last ls u)) → All ByReturn (choose p calls nowhere arms last ls w)
+    arms_end : {n : _} (arms : Row_of-Arm n) (last : Locals → Run Went) (ls : Locals) (w : World) → ArmsStay arms → ArmsEnd arms → ((u : World) → All ByReturn (last ls u))
+        → All ByReturn (choose p calls nowhere arms last ls w)
     arms_end end_of-Arm last ls w s h last_ok = last_ok w
     arms_end (more_of-Arm (Arm' test shape body) rest) last ls w s h last_ok =
         all_then (Anything Val) ByReturn (value_of p calls ls test w) _ (any (value_of p calls ls test w)) (λ v u _. either_way ByReturn (truth_in v) _ _ u
-        (all_then ByReturn ByReturn (in_order p calls nowhere body ls u) _ (row_ends body ls u s.0 h.0) (λ went u' g. left ByReturn (length ls) same_return went g)) (arms_end rest last ls u s.1 h.1 last_ok))
+        (all_then ByReturn ByReturn (in_order p calls nowhere body ls u) _ (row_ends body ls u s.0 h.0) (λ went u' g. left ByReturn (length ls) same_return went g))
+        (arms_end rest last ls u s.1 h.1 last_ok))
 
     last_ends : (last : Held-Form-If-1) (ls : Locals) (w : World) → LastStays last → LastEnds last → All ByReturn (otherwise p calls nowhere last ls w)
     last_ends form.None' ls w s h = absurd h

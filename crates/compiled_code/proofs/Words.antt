@@ -46,7 +46,8 @@ not_listed (w ∷ memory) from (suc a) e = by w.kind (not_listed memory (suc fro
     at : from + suc a ≡ suc from + a
     at = omega arith
 
-    by : (kind : WordKind) → list_any (λ t. t == suc from + a) (tallies_from (suc from) memory) ≡ false → list_any (λ t. t == from + suc a) (with_tally kind from (tallies_from (suc from) memory)) ≡ false
+    by : (kind : WordKind) → list_any (λ t. t == suc from + a) (tallies_from (suc from) memory) ≡ false
+        → list_any (λ t. t == from + suc a) (with_tally kind from (tallies_from (suc from) memory)) ≡ false
     by Ordinary h = ap (λ (n : ℕ). list_any (λ t. t == n) (tallies_from (suc from) memory)) at ∙ h
     by Tally h =
         ap (λ (b : Bool). b || list_any (λ t. t == from + suc a) (tallies_from (suc from) memory)) (ne_eqb from (from + suc a) (λ e'. omega (arith, e')))
@@ -67,7 +68,8 @@ no_value : (n from : ℕ) (memory : Memory) → n < from → find (λ e. e.0 == 
 no_value n from [] lt = refl
 no_value n from (w ∷ memory) lt = by (int_eq w.value (pos 0)) (no_value n (suc from) memory (omega arith))
   where
-    by : (b : Bool) → find (λ e. e.0 == n) (initial_from (suc from) memory) ≡ None → find (λ e. e.0 == n) (if b then initial_from (suc from) memory else (from, w.value) ∷ initial_from (suc from) memory) ≡ None
+    by : (b : Bool) → find (λ e. e.0 == n) (initial_from (suc from) memory) ≡ None → find (λ e. e.0 == n)
+        (if b then initial_from (suc from) memory else (from, w.value) ∷ initial_from (suc from) memory) ≡ None
     by true h = h
     by false h = ap (λ (b : Bool). if b then Some (from, w.value) else find (λ e. e.0 == n) (initial_from (suc from) memory)) (ne_eqb from n (λ e. omega (arith, e, lt))) ∙ h
 
@@ -78,9 +80,12 @@ value_first (w ∷ memory) from zero = by (int_eq w.value (pos 0)) refl
     at : from + 0 ≡ from
     at = omega arith
 
-    by : (b : Bool) → int_eq w.value (pos 0) ≡ b → option_map_or (λ e. e.1) (find (λ e. e.0 == from + 0) (if b then initial_from (suc from) memory else (from, w.value) ∷ initial_from (suc from) memory)) (pos 0) ≡ w.value
-    by true e = ap (λ (n : ℕ). option_map_or (λ x. x.1) (find (λ x. x.0 == n) (initial_from (suc from) memory)) (pos 0)) at ∙ ap (λ (o : Option (ℕ × ℤ)). option_map_or (λ x. x.1) o (pos 0)) (no_value from (suc from) memory (omega arith)) ∙ sym ((Decides-int_eq w.value (pos 0)).0 e)
-    by false e = ap (λ (b : Bool). option_map_or (λ x. x.1) (if b then Some (from, w.value) else find (λ x. x.0 == from + 0) (initial_from (suc from) memory)) (pos 0)) (eq-eqb from (from + 0) (omega arith))
+    by : (b : Bool) → int_eq w.value (pos 0) ≡ b → option_map_or (λ e. e.1) (find (λ e. e.0 == from + 0)
+        (if b then initial_from (suc from) memory else (from, w.value) ∷ initial_from (suc from) memory)) (pos 0) ≡ w.value
+    by true e = ap (λ (n : ℕ). option_map_or (λ x. x.1) (find (λ x. x.0 == n) (initial_from (suc from) memory)) (pos 0)) at
+        ∙ ap (λ (o : Option (ℕ × ℤ)). option_map_or (λ x. x.1) o (pos 0)) (no_value from (suc from) memory (omega arith)) ∙ sym ((Decides-int_eq w.value (pos 0)).0 e)
+    by false e = ap (λ (b : Bool). option_map_or (λ x. x.1) (if b then Some (from, w.value) else find (λ x. x.0 == from + 0) (initial_from (suc from) memory)) (pos 0))
+        (eq-eqb from (from + 0) (omega arith))
 value_first (w ∷ memory) from (suc a) = by (int_eq w.value (pos 0)) (value_first memory (suc from) a)
   where
     at : from + suc a ≡ suc from + a
@@ -90,7 +95,8 @@ value_first (w ∷ memory) from (suc a) = by (int_eq w.value (pos 0)) (value_fir
         → option_map_or (λ e. e.1) (find (λ e. e.0 == from + suc a) (if b then initial_from (suc from) memory else (from, w.value) ∷ initial_from (suc from) memory)) (pos 0) ≡ value_at memory a
     by true h = ap (λ (n : ℕ). option_map_or (λ x. x.1) (find (λ x. x.0 == n) (initial_from (suc from) memory)) (pos 0)) at ∙ h
     by false h =
-        ap (λ (b : Bool). option_map_or (λ x. x.1) (if b then Some (from, w.value) else find (λ x. x.0 == from + suc a) (initial_from (suc from) memory)) (pos 0)) (ne_eqb from (from + suc a) (λ e. omega (arith, e)))
+        ap (λ (b : Bool). option_map_or (λ x. x.1) (if b then Some (from, w.value) else find (λ x. x.0 == from + suc a) (initial_from (suc from) memory)) (pos 0))
+        (ne_eqb from (from + suc a) (λ e. omega (arith, e)))
         ∙ ap (λ (n : ℕ). option_map_or (λ x. x.1) (find (λ x. x.0 == n) (initial_from (suc from) memory)) (pos 0)) at ∙ h
 
 -- a list by its elements
@@ -122,7 +128,8 @@ merged_kinds : (memory : Memory) (answers : Answers) → kinds_of (merged_memory
 unfolding merged_memory
 merged_kinds memory answers = by memory 0
   where
-    by : (ws : Memory) (n : ℕ) → kinds_of (map (λ (place : ℕ × Word). record { kind = place.1.kind; value = value_after place.1.kind answers place.0 place.1.value }) (enumerate_from n ws)) ≡ kinds_of ws
+    by : (ws : Memory) (n : ℕ) → kinds_of (map (λ (place : ℕ × Word). record { kind = place.1.kind; value = value_after place.1.kind answers place.0 place.1.value }) (enumerate_from n ws)) ≡ kinds_of
+        ws
     by [] n = refl
     by (w ∷ ws) n = let rest = by ws (n + 1) in λ i. w.kind ∷ rest i
 
@@ -134,7 +141,8 @@ after_kinds memory later answers e = by (nat_lt (least_faulty (kinds_of memory) 
     outside (Some a) e' = absurd cc
     outside None e' = let same : merged_memory memory answers ≡ later = cc in ap (λ (x : Memory). kinds_of x) (sym same) ∙ merged_kinds memory answers
 
-    by : (b : Bool) → (if b then Err (fault_of (kinds_of memory) answers (least_faulty (kinds_of memory) answers)) else unless_outside (position is_outside (merged_memory memory answers)) (merged_memory memory answers)) ≡ Ok later → kinds_of later ≡ kinds_of memory
+    by : (b : Bool) → (if b then Err (fault_of (kinds_of memory) answers (least_faulty (kinds_of memory) answers)) else unless_outside (position is_outside (merged_memory memory answers))
+        (merged_memory memory answers)) ≡ Ok later → kinds_of later ≡ kinds_of memory
     by true e' = absurd cc
     by false e' = outside (position is_outside (merged_memory memory answers)) e'
 

@@ -56,7 +56,8 @@ function_code p f = record {
   gives = gives_of f.gives;
   locals = map (λ q. kind_of q.ty) f.params ++ kinds_in (form.Block f.body);
   instrs =
-      form_code p (form.Block f.body) (with_params [] f.params) (beginning (length f.params)) (ends_at (form_size p (form.Block f.body) (with_params [] f.params) (length f.params)))
+      form_code p (form.Block f.body) (with_params [] f.params) (beginning (length f.params))
+      (ends_at (form_size p (form.Block f.body) (with_params [] f.params) (length f.params)))
       ++ closing f.gives;
 }
 
@@ -70,7 +71,8 @@ block_code p (RoutineBlock' at width width_name id_name shape body) = record {
   params = 2;
   gives = result.Nothing;
   locals = ty.Int ∷ ty.Int ∷ kinds_in_row body;
-  instrs = row_code p body (routine_slots width_name.text id_name.text) (beginning 2) (ends_at (row_size p body (routine_slots width_name.text id_name.text) 2)) ++ i.Return ∷ [];
+  instrs = row_code p body (routine_slots width_name.text id_name.text) (beginning 2)
+      (ends_at (row_size p body (routine_slots width_name.text id_name.text) 2)) ++ i.Return ∷ [];
 }
 
 -- main's code
@@ -97,7 +99,8 @@ tallies_from at (word ∷ rest) = with_tally word.kind at (tallies_from (suc at)
 -- the addresses and values of the words that are not 0
 abbrev pub initial_from : ℕ → Memory → List (ℕ × ℤ)
 initial_from at [] = []
-initial_from at (word ∷ rest) = if int_eq word.value (pos 0) then initial_from (suc at) rest else (at, word.value) ∷ initial_from (suc at) rest
+initial_from at (word ∷ rest) = if int_eq word.value (pos 0) then initial_from (suc at) rest else (at, word.value) ∷ initial_from (suc at)
+    rest
 
 -- the module of a program
 abbrev pub module_of : Program → Module

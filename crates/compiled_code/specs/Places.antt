@@ -4,11 +4,14 @@ use Rattle.csl_tree.specs.declared.program.Program.{Program}
 use Rattle.csl_tree.specs.declared.program.Place.{Place', None', Some'}
 use Rattle.csl_tree.specs.declared.program.Call.{Call, Call'}
 use Rattle.csl_tree.specs.declared.program.Arm.{Arm'}
-use Rattle.csl_tree.specs.declared.program.Form.{Form, Declare, Set, AddTo, If', While', For', Break, Continue, Return, Assert, Block', Print, Par', Row_of-Arm, end_of-Arm, more_of-Arm, Row_of-Stmt, end_of-Stmt, more_of-Stmt, Held-Form-If-1}
+use Rattle.csl_tree.specs.declared.program.Form.{Form, Declare, Set, AddTo, If', While', For', Break, Continue, Return, Assert, Block'}
+use Rattle.csl_tree.specs.declared.program.Form.{Print, Par', Row_of-Arm, end_of-Arm, more_of-Arm, Row_of-Stmt, end_of-Stmt, more_of-Stmt}
+use Rattle.csl_tree.specs.declared.program.Form.{Held-Form-If-1}
 use Rattle.csl_tree.specs.declared.program.Form as form
 use Rattle.csl_meaning.specs.Effect.{function_named, blocks_in}
 use Rattle.compiled_code.specs.Slots.{Slot, Slots, slot_of, with_slot, kind_of}
-use Rattle.compiled_code.specs.Sizes.{size_of, place_size, boxed_size, values_size, items_size, widths_size, returned_size, drop_size, given_by, kinds_in, kinds_in_row, kinds_in_arms}
+use Rattle.compiled_code.specs.Sizes.{size_of, place_size, boxed_size, values_size, items_size, widths_size, returned_size, drop_size}
+use Rattle.compiled_code.specs.Sizes.{given_by, kinds_in, kinds_in_row, kinds_in_arms}
 
 -- the locals that are visible behind a statement, where its own begin at this slot
 abbrev pub slots_after : Slots → ℕ → Form → Slots
@@ -18,7 +21,8 @@ slots_after slots slot _ = slots
 -- behind the statements of a row
 abbrev pub slots_after_row : {n : _} → Slots → ℕ → Row_of-Stmt n → Slots
 slots_after_row slots slot end_of-Stmt = slots
-slots_after_row slots slot (more_of-Stmt where' form rest) = slots_after_row (slots_after slots slot form) (slot + length (kinds_in form)) rest
+slots_after_row slots slot (more_of-Stmt where' form rest) = slots_after_row (slots_after slots slot form) (slot + length (kinds_in form))
+    rest
 
 -- an adding to a local takes three instructions, and one to a shared word takes one
 abbrev pub add_size : Option Slot → ℕ
@@ -55,7 +59,8 @@ module _ (p : Program) where
 
     pub row_size : {n : _} → Row_of-Stmt n → Slots → ℕ → ℕ
     row_size end_of-Stmt slots slot = 0
-    row_size (more_of-Stmt at form rest) slots slot = form_size form slots slot + row_size rest (slots_after slots slot form) (slot + length (kinds_in form))
+    row_size (more_of-Stmt at form rest) slots slot = form_size form slots slot + row_size rest (slots_after slots slot form)
+        (slot + length (kinds_in form))
 
     -- that of the arms of an `if`, each with a jump behind it
     pub arms_size : {n : _} → Row_of-Arm n → Slots → ℕ → ℕ

@@ -11,7 +11,8 @@ use Rattle.compiled_code.specs.Modules.{main_code, module_of}
 abbrev pub GuardedCode : Type 0
 GuardedCode =
     (main_code rows.guarded).instrs
-    ≡ i.Word 0 ∷ i.Int (pos 0) ∷ i.Ne ∷ i.Branch 10 ∷ i.Int (pos 1) ∷ i.Word 0 ∷ i.Div ∷ i.Int (pos 0) ∷ i.Gt ∷ i.Jump 11 ∷ i.False ∷ i.Print (item.Truth ∷ []) ∷ i.Return ∷ []
+    ≡ i.Word 0 ∷ i.Int (pos 0) ∷ i.Ne ∷ i.Branch 10 ∷ i.Int (pos 1) ∷ i.Word 0 ∷ i.Div ∷ i.Int (pos 0) ∷ i.Gt ∷ i.Jump 11 ∷ i.False ∷
+    i.Print (item.Truth ∷ []) ∷ i.Return ∷ []
 
 -- `for (int i = 0; i < 9; i += 1) { if (i == 1) { continue; } if (i == 3) { break; } s += i; }` between other statements:
 -- `continue` goes to the step statement, `break` behind the loop

@@ -5,14 +5,17 @@ use Rattle.csl_tree.specs.declared.program.Function.{Function}
 use Rattle.cal_terms.specs.declared.types.Gives.{Gives}
 use Rattle.cal_terms.specs.declared.types.Gives.TheVariants as gives
 use Rattle.csl_tree.specs.declared.program.Expr.{Expr}
-use Rattle.csl_tree.specs.declared.program.Node.{Node, Number, Truth, Read, CallOf, Unary', Binary', Paren', Row_of-Expr, end_of-Expr, more_of-Expr}
+use Rattle.csl_tree.specs.declared.program.Node.{Node, Number, Truth, Read, CallOf, Unary', Binary', Paren', Row_of-Expr, end_of-Expr}
+use Rattle.csl_tree.specs.declared.program.Node.{more_of-Expr}
 use Rattle.csl_tree.specs.declared.program.Place.{Place, Place', None', Some'}
 use Rattle.csl_tree.specs.declared.program.Call.{Call, Call'}
 use Rattle.csl_tree.specs.declared.program.Item.{Item}
 use Rattle.csl_tree.specs.declared.program.Item.TheVariants as item
 use Rattle.csl_tree.specs.declared.program.Arm.{Arm'}
 use Rattle.csl_tree.specs.declared.program.RoutineBlock.{RoutineBlock, RoutineBlock'}
-use Rattle.csl_tree.specs.declared.program.Form.{Form, Declare, Set, AddTo, If', While', For', Break, Continue, Return, Assert, Block', Print, Par', Row_of-Arm, end_of-Arm, more_of-Arm, Row_of-Stmt, end_of-Stmt, more_of-Stmt, Held-Form-If-1, Row_of-RoutineBlock, end_of-RoutineBlock, more_of-RoutineBlock}
+use Rattle.csl_tree.specs.declared.program.Form.{Form, Declare, Set, AddTo, If', While', For', Break, Continue, Return, Assert, Block'}
+use Rattle.csl_tree.specs.declared.program.Form.{Print, Par', Row_of-Arm, end_of-Arm, more_of-Arm, Row_of-Stmt, end_of-Stmt, more_of-Stmt}
+use Rattle.csl_tree.specs.declared.program.Form.{Held-Form-If-1, Row_of-RoutineBlock, end_of-RoutineBlock, more_of-RoutineBlock}
 use Rattle.csl_tree.specs.declared.program.Form as form
 use Rattle.csl_tree.specs.declared.program.Form.TheVariants as variant
 use Rattle.csl_meaning.specs.Layout.{Text}
@@ -128,7 +131,8 @@ module _ (p : Program) where
 
     pub BlocksAre : {n : _} → Row_of-RoutineBlock n → Type 0
     BlocksAre end_of-RoutineBlock = Unit {0}
-    BlocksAre (more_of-RoutineBlock (RoutineBlock' at width width_name id_name shape body) rest) = ValueIs width.node × RowIs body × BlocksAre rest
+    BlocksAre (more_of-RoutineBlock (RoutineBlock' at width width_name id_name shape body) rest) = ValueIs width.node × RowIs body
+        × BlocksAre rest
 
 abbrev mutual
   -- no `break` and no `continue` leads out of the statement

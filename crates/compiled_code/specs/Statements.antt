@@ -10,7 +10,9 @@ use Rattle.csl_tree.specs.declared.program.Item.{Item}
 use Rattle.csl_tree.specs.declared.program.Item.TheVariants as item
 use Rattle.csl_tree.specs.declared.program.Arm.{Arm'}
 use Rattle.csl_tree.specs.declared.program.RoutineBlock.{RoutineBlock, RoutineBlock'}
-use Rattle.csl_tree.specs.declared.program.Form.{Form, Declare, Set, AddTo, If', While', For', Break, Continue, Return, Assert, Block', Print, Par', Row_of-Arm, end_of-Arm, more_of-Arm, Row_of-Stmt, end_of-Stmt, more_of-Stmt, Held-Form-If-1}
+use Rattle.csl_tree.specs.declared.program.Form.{Form, Declare, Set, AddTo, If', While', For', Break, Continue, Return, Assert, Block'}
+use Rattle.csl_tree.specs.declared.program.Form.{Print, Par', Row_of-Arm, end_of-Arm, more_of-Arm, Row_of-Stmt, end_of-Stmt, more_of-Stmt}
+use Rattle.csl_tree.specs.declared.program.Form.{Held-Form-If-1}
 use Rattle.csl_tree.specs.declared.program.Form as form
 use Rattle.csl_meaning.specs.declared.state.Area.{Area}
 use Rattle.csl_meaning.specs.Layout.{area_of}
@@ -24,7 +26,8 @@ use Rattle.cal_terms.specs.declared.types.Ty.{Ty}
 use Rattle.cal_terms.specs.declared.types.Ty.TheVariants as ty
 use Rattle.compiled_code.specs.Slots.{Slot, Slots, slot_of}
 use Rattle.compiled_code.specs.Places.{slots_after, slots_after_row, form_size, row_size, arms_size}
-use Rattle.compiled_code.specs.Sizes.{size_of, boxed_size, given_by, kinds_in, kinds_in_row, kinds_in_arms, texts_in, texts_in_row, texts_in_arms, steps_in, steps_in_row, steps_in_arms}
+use Rattle.compiled_code.specs.Sizes.{size_of, boxed_size, given_by, kinds_in, kinds_in_row, kinds_in_arms, texts_in, texts_in_row}
+use Rattle.compiled_code.specs.Sizes.{texts_in_arms, steps_in, steps_in_row, steps_in_arms}
 use Rattle.compiled_code.specs.Values.{code_of, boxed_code, call_code, kind_in}
 
 -- where code goes on: the place of the next instruction, the next slot, and the numbers of the next text and of the next routine block
@@ -65,7 +68,8 @@ printed_kind ty.Bool = printed.Truth
 module _ (p : Program) (slots : Slots) where
   -- `x = e` and `a[i] = e`
   abbrev pub set_code : Place → Expr → ℕ → List Instr
-  set_code (Place' name None') e at = code_of p slots e at ++ store_instr (slot_of slots name.text) (declared (area_of p.shared name.text)) ∷ []
+  set_code (Place' name None') e at = code_of p slots e at ++ store_instr (slot_of slots name.text) (declared (area_of p.shared name.text))
+      ∷ []
   set_code (Place' name (Some' shape index)) e at =
       boxed_code p slots index at ++ code_of p slots e (at + boxed_size index)
       ++ i.SetItem (declared (area_of p.shared name.text)).first (unwrap_or (declared (area_of p.shared name.text)).items 0) ∷ []
@@ -84,7 +88,8 @@ module _ (p : Program) (slots : Slots) where
 
   -- a call as a statement
   abbrev pub statement_code : Call → ℕ → List Instr
-  statement_code (Call' name shape args) at = call_code p slots (Call' name shape args) at ++ drop_code (given_by (function_named p.functions name.text))
+  statement_code (Call' name shape args) at = call_code p slots (Call' name shape args) at
+      ++ drop_code (given_by (function_named p.functions name.text))
 
   -- the values of a print, one behind the other
   abbrev pub items_code : List Item → ℕ → List Instr
@@ -101,7 +106,8 @@ module _ (p : Program) (slots : Slots) where
   -- the widths of a step's blocks, one behind the other
   abbrev pub widths_code : List RoutineBlock → ℕ → List Instr
   widths_code [] at = []
-  widths_code (RoutineBlock' where' width width_name id_name shape body ∷ rest) at = code_of p slots width at ++ widths_code rest (at + size_of width)
+  widths_code (RoutineBlock' where' width width_name id_name shape body ∷ rest) at = code_of p slots width at
+      ++ widths_code rest (at + size_of width)
 
 module _ (p : Program) where
   -- where code goes on behind this many instructions
@@ -142,7 +148,8 @@ module _ (p : Program) where
     form_code (Set place e) slots at exits = set_code p slots place e at.place
     form_code (AddTo place e) slots at exits = add_to_code p slots place e at.place
     form_code (If' shape arms last) slots at exits =
-        arms_code arms slots at exits (at.place + form_size p (If' shape arms last) slots at.slot) ++ last_code last slots (beyond_arms slots at arms) exits
+        arms_code arms slots at exits (at.place + form_size p (If' shape arms last) slots at.slot)
+        ++ last_code last slots (beyond_arms slots at arms) exits
     form_code (While' test shape body) slots at exits =
         let back = at.place + size_of test + 1 + row_size p body slots at.slot in
         code_of p slots test at.place
@@ -166,7 +173,8 @@ module _ (p : Program) where
     form_code (Assert e) slots at exits = code_of p slots e at.place ++ i.Assert ∷ []
     form_code (Block' shape body) slots at exits = row_code body slots at exits
     form_code (Print items) slots at exits = items_code p slots items at.place ++ i.Print (printed_items p slots items at.text) ∷ []
-    form_code (Par' shape blocks) slots at exits = widths_code p slots (blocks_in blocks) at.place ++ i.Par at.block (length (blocks_in blocks)) ∷ []
+    form_code (Par' shape blocks) slots at exits = widths_code p slots (blocks_in blocks) at.place
+        ++ i.Par at.block (length (blocks_in blocks)) ∷ []
 
     -- the statements of a row, one behind the other
     pub row_code : {n : _} → Row_of-Stmt n → Slots → At → Exits → List Instr

@@ -10,7 +10,8 @@ use Rattle.csl_tree.specs.declared.program.UnaryOp.TheVariants.{Neg, Not}
 use Rattle.csl_tree.specs.declared.program.BinaryOp.{BinaryOp}
 use Rattle.csl_tree.specs.declared.program.BinaryOp.TheVariants.{Add, Sub, Mul, Div, Rem, Eq, Ne, Lt, Le, Gt, Ge, And, Or}
 use Rattle.csl_tree.specs.declared.program.Expr.{Expr}
-use Rattle.csl_tree.specs.declared.program.Node.{Node, Number, Truth, Read, CallOf, Unary', Binary', Paren', Row_of-Expr, end_of-Expr, more_of-Expr}
+use Rattle.csl_tree.specs.declared.program.Node.{Node, Number, Truth, Read, CallOf, Unary', Binary', Paren', Row_of-Expr, end_of-Expr}
+use Rattle.csl_tree.specs.declared.program.Node.{more_of-Expr}
 use Rattle.csl_tree.specs.declared.program.Place.{Place, Place', None', Some'}
 use Rattle.csl_tree.specs.declared.program.Call.{Call, Call'}
 use Rattle.csl_meaning.specs.declared.state.Area.{Area}
@@ -83,7 +84,8 @@ module _ (p : Program) (slots : Slots) where
     value_code (Read place) at = read_code place at
     value_code (CallOf call) at = call_code call at
     value_code (Unary' op shape a) at = boxed_code a at ++ unary_instr op ∷ []
-    value_code (Binary' op shape a shape' b) at = binary_code op at (boxed_size a) (boxed_size b) (boxed_code a at) (λ there. boxed_code b there)
+    value_code (Binary' op shape a shape' b) at = binary_code op at (boxed_size a) (boxed_size b) (boxed_code a at)
+        (λ there. boxed_code b there)
     value_code (Paren' shape a) at = boxed_code a at
 
     -- a place that is read; an index stands before it

@@ -10,7 +10,8 @@ use Rattle.csl_tree.specs.declared.program.UnaryOp.TheVariants as unary_op
 use Rattle.csl_tree.specs.declared.program.BinaryOp.{BinaryOp}
 use Rattle.csl_tree.specs.declared.program.BinaryOp.TheVariants as binary_op
 use Rattle.csl_tree.specs.declared.program.Expr.{Expr}
-use Rattle.csl_grammar.specs.Expressions.{SpellsExpr, SpellsChain, SpellsArguments, SpellsMore, chain, prefixed, number, truth, named, indexed, called, paren, ends, goes_on, nothing, something, no_more, more, level_of, mark_of, prefix_mark, truth_word, whole}
+use Rattle.csl_grammar.specs.Expressions.{SpellsExpr, SpellsChain, SpellsArguments, SpellsMore, chain, prefixed, number, truth, named, indexed, called, paren, ends, goes_on, nothing, something}
+use Rattle.csl_grammar.specs.Expressions.{no_more, more, level_of, mark_of, prefix_mark, truth_word, whole}
 use Rattle.csl_grammar.specs.Stops.{BeginsOtherThan, Stops, operator_of}
 
 pub operator_of-mark_of : (op : BinaryOp) → operator_of (mark_of op) ≡ Some op
@@ -74,7 +75,8 @@ begins_clash [] h e same = cc
 begins_clash (x ∷ xs) h e same = h (cc)
 
 -- tokens with which no expression goes on
-pub stops_at : {level : ℕ} {m : Mark} {first : Token} {ts : List Token} → first.kind ≡ kind.Mark m → operator_of m ≡ None → (m ≡ mark.OpenBracket → ⊥) → (m ≡ mark.OpenParen → ⊥) → Stops level (first ∷ ts)
+pub stops_at : {level : ℕ} {m : Mark} {first : Token} {ts : List Token} → first.kind ≡ kind.Mark m → operator_of m ≡ None → (m ≡ mark.OpenBracket → ⊥) → (m ≡ mark.OpenParen → ⊥)
+    → Stops level (first ∷ ts)
 stops_at {m = m} e none bracket round = record {
   no_index = λ same. bracket (cc);
   no_call = λ same. round (cc);
@@ -117,7 +119,8 @@ not_closing (called k o d c) e close = cc
 not_closing (paren k d c) e close = cc
 
 mutual
-  pub unique : {level : ℕ} {ts rest ts' rest' : List Token} {t t' : Expr} → SpellsExpr level ts rest t → SpellsExpr level ts' rest' t' → ts ≡ ts' → Stops level rest → Stops level rest' → (rest ≡ rest') × (t ≡ t')
+  pub unique : {level : ℕ} {ts rest ts' rest' : List Token} {t t' : Expr} → SpellsExpr level ts rest t → SpellsExpr level ts' rest' t' → ts ≡ ts' → Stops level rest → Stops level rest'
+      → (rest ≡ rest') × (t ≡ t')
   unique (chain d c) (chain d' c') e s s' =
       let both : _ × _ = unique d d' e (chain_stops c s) (chain_stops c' s') in
       unique_chain c c' both.1 both.0 s s'
@@ -171,7 +174,8 @@ mutual
   unique (paren k d c) (called k' o' d' c') e s s' = absurd (cc)
   unique (paren k d c) (paren k' d' c') e s s' = let both : _ × _ = unique d d' (cc) (stops_at c refl (λ h. cc) (λ h. cc)) (stops_at c' refl (λ h. cc) (λ h. cc)) in ((cc both.0), (cc both.1))
 
-  pub unique_chain : {level : ℕ} {left left' t t' : Expr} {ts rest ts' rest' : List Token} → SpellsChain level left ts rest t → SpellsChain level left' ts' rest' t' → left ≡ left' → ts ≡ ts' → Stops (suc level) rest → Stops (suc level) rest' → (rest ≡ rest') × (t ≡ t')
+  pub unique_chain : {level : ℕ} {left left' t t' : Expr} {ts rest ts' rest' : List Token} → SpellsChain level left ts rest t → SpellsChain level left' ts' rest' t' → left ≡ left' → ts ≡ ts'
+      → Stops (suc level) rest → Stops (suc level) rest' → (rest ≡ rest') × (t ≡ t')
   unique_chain ends ends l e s s' = (e, l)
   unique_chain ends (goes_on {op = p'} here' sign' d' c') l e s s' = absurd (begins_clash _ (s.no_operator p' (omega arith)) e sign')
   unique_chain (goes_on {op = p} here sign d c) ends l e s s' = absurd (begins_clash _ (s'.no_operator p (omega arith)) (sym e) sign)
@@ -180,7 +184,8 @@ mutual
       let both : _ × _ = unique d d' (cc) (chain_stops c s) (chain_stops c' s') in
       unique_chain c c' (cc (l, op, both.1)) both.0 s s'
 
-  pub unique_arguments : {ts rest ts' rest' behind behind' : List Token} {es es' : List Expr} {closing closing' : Token} → SpellsArguments ts rest es → SpellsArguments ts' rest' es' → ts ≡ ts' → rest ≡ closing ∷ behind → rest' ≡ closing' ∷ behind' → closing.kind ≡ kind.Mark mark.CloseParen → closing'.kind ≡ kind.Mark mark.CloseParen → (rest ≡ rest') × (es ≡ es')
+  pub unique_arguments : {ts rest ts' rest' behind behind' : List Token} {es es' : List Expr} {closing closing' : Token} → SpellsArguments ts rest es → SpellsArguments ts' rest' es' → ts ≡ ts'
+      → rest ≡ closing ∷ behind → rest' ≡ closing' ∷ behind' → closing.kind ≡ kind.Mark mark.CloseParen → closing'.kind ≡ kind.Mark mark.CloseParen → (rest ≡ rest') × (es ≡ es')
   unique_arguments nothing nothing e r r' c c' = (e, refl)
   unique_arguments nothing (something d m) e r r' c c' = absurd (not_closing d (sym e ∙ r) c)
   unique_arguments (something d m) nothing e r r' c c' = absurd (not_closing d (e ∙ r') c')
@@ -189,7 +194,8 @@ mutual
       let ends : _ × _ = unique_more m m' both.0 r r' c c' in
       (ends.0, (cc (both.1, ends.1)))
 
-  pub unique_more : {ts rest ts' rest' behind behind' : List Token} {es es' : List Expr} {closing closing' : Token} → SpellsMore ts rest es → SpellsMore ts' rest' es' → ts ≡ ts' → rest ≡ closing ∷ behind → rest' ≡ closing' ∷ behind' → closing.kind ≡ kind.Mark mark.CloseParen → closing'.kind ≡ kind.Mark mark.CloseParen → (rest ≡ rest') × (es ≡ es')
+  pub unique_more : {ts rest ts' rest' behind behind' : List Token} {es es' : List Expr} {closing closing' : Token} → SpellsMore ts rest es → SpellsMore ts' rest' es' → ts ≡ ts'
+      → rest ≡ closing ∷ behind → rest' ≡ closing' ∷ behind' → closing.kind ≡ kind.Mark mark.CloseParen → closing'.kind ≡ kind.Mark mark.CloseParen → (rest ≡ rest') × (es ≡ es')
   unique_more no_more no_more e r r' c c' = (e, refl)
   unique_more no_more (more comma d m) e r r' c c' = absurd (cc)
   unique_more (more comma d m) no_more e r r' c c' = absurd (cc)

@@ -20,7 +20,8 @@ use Rattle.csl_tree.specs.declared.program.Item.{Item}
 use Rattle.csl_tree.specs.declared.program.Stmt.{Stmt}
 use Rattle.csl_grammar.specs.Expressions.{SpellsExpr, chain, prefixed, number, truth, named, indexed as indexed_expr, called as called_expr, paren, prefix_mark, whole}
 use Rattle.csl_grammar.specs.Stops.{BeginsOtherThan, Stops}
-use Rattle.csl_grammar.specs.Programs.{IsMark, type_word, SpellsPlace, bare, indexed, SpellsCall, called, SpellsDecl, declare, SpellsChange, set, add_to, SpellsItem, text, value, MoreOf, no_more, more, ListOf, nothing, something, SpellsValue, plain, minus, SpellsInitial, unlisted, listed, SpellsShared, scalar, array, tally, SpellsParam, param}
+use Rattle.csl_grammar.specs.Programs.{IsMark, type_word, SpellsPlace, bare, indexed, SpellsCall, called, SpellsDecl, declare, SpellsChange, set, add_to, SpellsItem, text, value, MoreOf, no_more}
+use Rattle.csl_grammar.specs.Programs.{more, ListOf, nothing, something, SpellsValue, plain, minus, SpellsInitial, unlisted, listed, SpellsShared, scalar, array, tally, SpellsParam, param}
 use Rattle.csl_grammar.proofs.Unique.{unique, unique_arguments, stops_at, begins_clash}
 
 -- ---- what no expression begins with
@@ -87,7 +88,8 @@ type_word-same ty.Bool ty.Bool e = refl
 
 -- ---- places, calls, declarations of locals, changes
 
-pub unique_place : {ts rest ts' rest' : List Token} {p p' : Place} → SpellsPlace ts rest p → SpellsPlace ts' rest' p' → ts ≡ ts' → BeginsOtherThan (kind.Mark mark.OpenBracket) rest → BeginsOtherThan (kind.Mark mark.OpenBracket) rest' → (rest ≡ rest') × (p ≡ p')
+pub unique_place : {ts rest ts' rest' : List Token} {p p' : Place} → SpellsPlace ts rest p → SpellsPlace ts' rest' p' → ts ≡ ts' → BeginsOtherThan (kind.Mark mark.OpenBracket) rest
+    → BeginsOtherThan (kind.Mark mark.OpenBracket) rest' → (rest ≡ rest') × (p ≡ p')
 unique_place (bare n) (bare n') e s s' = ((cc), (cc))
 unique_place (bare {rest = r} n) (indexed {opening = q} {tokens = w} n' o' d' c') e s s' = let same : r ≡ q ∷ w = cc in absurd (begins_clash _ s same o')
 unique_place (indexed {opening = q} {tokens = w} n o d c) (bare {rest = r} n') e s s' = let same : r ≡ q ∷ w = cc in absurd (begins_clash _ s' same o)
@@ -103,7 +105,8 @@ unique_decl (declare {t = t} w n a d) (declare {t = t'} w' n' a' d') e s s' =
     (both.0, (cc (type, both.1)))
 
 -- two places in front of a token that is no bracket
-places_before : {ts m ts' m' : List Token} {eq eq' : Token} {p p' : Place} → SpellsPlace ts (eq ∷ m) p → SpellsPlace ts' (eq' ∷ m') p' → ts ≡ ts' → (eq.kind ≡ kind.Mark mark.OpenBracket → ⊥) → (eq'.kind ≡ kind.Mark mark.OpenBracket → ⊥) → ((eq ∷ m) ≡ (eq' ∷ m')) × (p ≡ p')
+places_before : {ts m ts' m' : List Token} {eq eq' : Token} {p p' : Place} → SpellsPlace ts (eq ∷ m) p → SpellsPlace ts' (eq' ∷ m') p' → ts ≡ ts' → (eq.kind ≡ kind.Mark mark.OpenBracket → ⊥)
+    → (eq'.kind ≡ kind.Mark mark.OpenBracket → ⊥) → ((eq ∷ m) ≡ (eq' ∷ m')) × (p ≡ p')
 places_before d d' e other other' = unique_place d d' e other other'
 
 pub unique_change : {ts rest ts' rest' : List Token} {s s' : Stmt} → SpellsChange ts rest s → SpellsChange ts' rest' s' → ts ≡ ts' → Stops whole rest → Stops whole rest' → (rest ≡ rest') × (s ≡ s')
@@ -144,7 +147,8 @@ module _ {T : Type 0} {spells : List Token → List Token → T → Type 0} (k :
   list_stops {behind = behind} {last = last} no_more e l = subst stops (sym e) (at_end last behind l)
   list_stops (more {comma = comma} {tokens = tokens} c d m) e l = at_comma comma tokens c
 
-  pub unique_more : {ts rest ts' rest' behind behind' : List Token} {xs xs' : List T} {last last' : Token} → MoreOf spells ts rest xs → MoreOf spells ts' rest' xs' → ts ≡ ts' → rest ≡ last ∷ behind → rest' ≡ last' ∷ behind' → last.kind ≡ k → last'.kind ≡ k → (rest ≡ rest') × (xs ≡ xs')
+  pub unique_more : {ts rest ts' rest' behind behind' : List Token} {xs xs' : List T} {last last' : Token} → MoreOf spells ts rest xs → MoreOf spells ts' rest' xs' → ts ≡ ts' → rest ≡ last ∷ behind
+      → rest' ≡ last' ∷ behind' → last.kind ≡ k → last'.kind ≡ k → (rest ≡ rest') × (xs ≡ xs')
   unique_more no_more no_more e r r' l l' = (e, refl)
   unique_more no_more (more c d m) e r r' l l' = absurd (other (cc))
   unique_more (more c d m) no_more e r r' l l' = absurd (other (cc))
@@ -153,7 +157,8 @@ module _ {T : Type 0} {spells : List Token → List Token → T → Type 0} (k :
       let ends : _ × _ = unique_more m m' both.0 r r' l l' in
       (ends.0, (cc (both.1, ends.1)))
 
-  pub unique_list : {ts rest ts' rest' behind behind' : List Token} {xs xs' : List T} {last last' : Token} → ListOf spells ts rest xs → ListOf spells ts' rest' xs' → ts ≡ ts' → rest ≡ last ∷ behind → rest' ≡ last' ∷ behind' → last.kind ≡ k → last'.kind ≡ k → (rest ≡ rest') × (xs ≡ xs')
+  pub unique_list : {ts rest ts' rest' behind behind' : List Token} {xs xs' : List T} {last last' : Token} → ListOf spells ts rest xs → ListOf spells ts' rest' xs' → ts ≡ ts' → rest ≡ last ∷ behind
+      → rest' ≡ last' ∷ behind' → last.kind ≡ k → last'.kind ≡ k → (rest ≡ rest') × (xs ≡ xs')
   unique_list nothing nothing e r r' l l' = (e, refl)
   unique_list nothing (something d m) e r r' l l' = absurd (never _ _ _ _ _ d (sym e ∙ r) l)
   unique_list (something d m) nothing e r r' l l' = absurd (never _ _ _ _ _ d (e ∙ r') l')
@@ -166,8 +171,10 @@ module _ {T : Type 0} {spells : List Token → List Token → T → Type 0} (k :
 abbrev pub anywhere : List Token → Type 0
 anywhere rest = Unit {0}
 
-pub unique_items : {ts rest ts' rest' behind behind' : List Token} {xs xs' : List Item} {last last' : Token} → ListOf SpellsItem ts rest xs → ListOf SpellsItem ts' rest' xs' → ts ≡ ts' → rest ≡ last ∷ behind → rest' ≡ last' ∷ behind' → IsMark last mark.CloseParen → IsMark last' mark.CloseParen → (rest ≡ rest') × (xs ≡ xs')
-unique_items d d' e r r' l l' = unique_list (kind.Mark mark.CloseParen) (Stops whole) (λ _ _ _ _ _ _ a b. unique_item a b) (λ _ _ _ _ _ a. no_item a) (λ h. cc) (λ _ _ h. stops_paren h) (λ _ _ h. stops_comma h) d d' e r r' l l'
+pub unique_items : {ts rest ts' rest' behind behind' : List Token} {xs xs' : List Item} {last last' : Token} → ListOf SpellsItem ts rest xs → ListOf SpellsItem ts' rest' xs' → ts ≡ ts'
+    → rest ≡ last ∷ behind → rest' ≡ last' ∷ behind' → IsMark last mark.CloseParen → IsMark last' mark.CloseParen → (rest ≡ rest') × (xs ≡ xs')
+unique_items d d' e r r' l l' = unique_list (kind.Mark mark.CloseParen) (Stops whole) (λ _ _ _ _ _ _ a b. unique_item a b) (λ _ _ _ _ _ a. no_item a) (λ h. cc) (λ _ _ h. stops_paren h)
+    (λ _ _ h. stops_comma h) d d' e r r' l l'
 
 -- ---- shared declarations
 
@@ -182,10 +189,13 @@ pub no_value_closes : {ts rest behind : List Token} {v : Valued} {closing : Toke
 no_value_closes (plain k) e c = cc
 no_value_closes (minus s k) e c = cc
 
-pub unique_values : {ts rest ts' rest' behind behind' : List Token} {xs xs' : List Valued} {last last' : Token} → ListOf SpellsValue ts rest xs → ListOf SpellsValue ts' rest' xs' → ts ≡ ts' → rest ≡ last ∷ behind → rest' ≡ last' ∷ behind' → IsMark last mark.CloseBrace → IsMark last' mark.CloseBrace → (rest ≡ rest') × (xs ≡ xs')
-unique_values d d' e r r' l l' = unique_list (kind.Mark mark.CloseBrace) anywhere (λ _ _ _ _ _ _ a b f _ _. unique_value a b f) (λ _ _ _ _ _ a. no_value_closes a) (λ h. cc) (λ _ _ _. tt) (λ _ _ _. tt) d d' e r r' l l'
+pub unique_values : {ts rest ts' rest' behind behind' : List Token} {xs xs' : List Valued} {last last' : Token} → ListOf SpellsValue ts rest xs → ListOf SpellsValue ts' rest' xs' → ts ≡ ts'
+    → rest ≡ last ∷ behind → rest' ≡ last' ∷ behind' → IsMark last mark.CloseBrace → IsMark last' mark.CloseBrace → (rest ≡ rest') × (xs ≡ xs')
+unique_values d d' e r r' l l' = unique_list (kind.Mark mark.CloseBrace) anywhere (λ _ _ _ _ _ _ a b f _ _. unique_value a b f) (λ _ _ _ _ _ a. no_value_closes a) (λ h. cc) (λ _ _ _. tt) (λ _ _ _. tt)
+    d d' e r r' l l'
 
-pub unique_initial : {ts rest ts' rest' behind behind' : List Token} {b b' : Bool} {vs vs' : List Valued} {last last' : Token} → SpellsInitial ts rest b vs → SpellsInitial ts' rest' b' vs' → ts ≡ ts' → rest ≡ last ∷ behind → rest' ≡ last' ∷ behind' → IsMark last mark.Semicolon → IsMark last' mark.Semicolon → (rest ≡ rest') × (b ≡ b') × (vs ≡ vs')
+pub unique_initial : {ts rest ts' rest' behind behind' : List Token} {b b' : Bool} {vs vs' : List Valued} {last last' : Token} → SpellsInitial ts rest b vs → SpellsInitial ts' rest' b' vs' → ts ≡ ts'
+    → rest ≡ last ∷ behind → rest' ≡ last' ∷ behind' → IsMark last mark.Semicolon → IsMark last' mark.Semicolon → (rest ≡ rest') × (b ≡ b') × (vs ≡ vs')
 unique_initial unlisted unlisted e r r' l l' = (e, refl, refl)
 unique_initial unlisted (listed a o d c) e r r' l l' = absurd (cc)
 unique_initial (listed a o d c) unlisted e r r' l l' = absurd (cc)
@@ -211,5 +221,7 @@ unique_param (param {t = t} w n) (param {t = t'} w' n') e = let type : t ≡ t' 
 pub no_param_closes : {ts rest behind : List Token} {p : Param} {closing : Token} → SpellsParam ts rest p → ts ≡ closing ∷ behind → IsMark closing mark.CloseParen → ⊥
 no_param_closes (param {t = t} w n) e c = cc
 
-pub unique_params : {ts rest ts' rest' behind behind' : List Token} {xs xs' : List Param} {last last' : Token} → ListOf SpellsParam ts rest xs → ListOf SpellsParam ts' rest' xs' → ts ≡ ts' → rest ≡ last ∷ behind → rest' ≡ last' ∷ behind' → IsMark last mark.CloseParen → IsMark last' mark.CloseParen → (rest ≡ rest') × (xs ≡ xs')
-unique_params d d' e r r' l l' = unique_list (kind.Mark mark.CloseParen) anywhere (λ _ _ _ _ _ _ a b f _ _. unique_param a b f) (λ _ _ _ _ _ a. no_param_closes a) (λ h. cc) (λ _ _ _. tt) (λ _ _ _. tt) d d' e r r' l l'
+pub unique_params : {ts rest ts' rest' behind behind' : List Token} {xs xs' : List Param} {last last' : Token} → ListOf SpellsParam ts rest xs → ListOf SpellsParam ts' rest' xs' → ts ≡ ts'
+    → rest ≡ last ∷ behind → rest' ≡ last' ∷ behind' → IsMark last mark.CloseParen → IsMark last' mark.CloseParen → (rest ≡ rest') × (xs ≡ xs')
+unique_params d d' e r r' l l' = unique_list (kind.Mark mark.CloseParen) anywhere (λ _ _ _ _ _ _ a b f _ _. unique_param a b f) (λ _ _ _ _ _ a. no_param_closes a) (λ h. cc) (λ _ _ _. tt) (λ _ _ _. tt)
+    d d' e r r' l l'

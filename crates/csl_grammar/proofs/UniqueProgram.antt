@@ -20,13 +20,17 @@ use Rattle.csl_tree.specs.declared.program.Arm.{Arm}
 use Rattle.csl_tree.specs.declared.program.RoutineBlock.{RoutineBlock}
 use Rattle.csl_grammar.specs.Expressions.{whole}
 use Rattle.csl_grammar.specs.Stops.{BeginsOtherThan, Stops}
-use Rattle.csl_grammar.specs.Programs.{IsMark, IsWord, IsName, type_word, result_word, SpellsPlace, bare, indexed, SpellsCall, called, SpellsDecl, declare, SpellsChange, set, add_to, SpellsStmt, declared, changed, calls, block, if_else, while_loop, for_loop, break_out, goes_on, returns, returns_value, asserts, prints, parallel, SpellsStart, declares, changes, SpellsBlock, braces, SpellsStmts, none, one_more, SpellsArm, tested, SpellsElse, no_else, else_if, else_block, SpellsRoutine, routine, SpellsRoutines, no_routine, one_routine, SpellsShared, scalar, array, tally, SpellsFunction, function, Each, stop, again, SpellsProgram, program}
+use Rattle.csl_grammar.specs.Programs.{IsMark, IsWord, IsName, type_word, result_word, SpellsPlace, bare, indexed, SpellsCall, called, SpellsDecl, declare, SpellsChange, set, add_to, SpellsStmt}
+use Rattle.csl_grammar.specs.Programs.{declared, changed, calls, block, if_else, while_loop, for_loop, break_out, goes_on, returns, returns_value, asserts, prints, parallel, SpellsStart, declares}
+use Rattle.csl_grammar.specs.Programs.{changes, SpellsBlock, braces, SpellsStmts, none, one_more, SpellsArm, tested, SpellsElse, no_else, else_if, else_block, SpellsRoutine, routine, SpellsRoutines}
+use Rattle.csl_grammar.specs.Programs.{no_routine, one_routine, SpellsShared, scalar, array, tally, SpellsFunction, function, Each, stop, again, SpellsProgram, program}
 use Rattle.csl_grammar.specs.Spelling.{TokensSpellOne}
 use Rattle.csl_grammar.specs.Texts.{TextSpellsOne}
 use Rattle.csl_lexer.proofs.OneWay.{reads_one_way}
 use Rattle.csl_lexer.specs.declared.LexError.{LexError}
 use Rattle.csl_grammar.proofs.Unique.{unique, begins_clash}
-use Rattle.csl_grammar.proofs.UniqueParts.{unique_call, unique_decl, unique_change, unique_items, unique_shared, unique_params, no_expression, semicolon_begins_none, stops_semicolon, stops_paren, stops_bracket}
+use Rattle.csl_grammar.proofs.UniqueParts.{unique_call, unique_decl, unique_change, unique_items, unique_shared, unique_params, no_expression, semicolon_begins_none, stops_semicolon, stops_paren}
+use Rattle.csl_grammar.proofs.UniqueParts.{stops_bracket}
 
 -- ---- the form of a statement, told by its first tokens
 
@@ -164,7 +168,8 @@ form_of_change (token ∷ ts) other = at token.kind other
 pub form_of_call : (next : Token) (ts : List Token) → IsMark next mark.OpenParen → form_behind_name (next ∷ ts) ≡ 3
 form_of_call next ts o = ap (λ x. form_behind_name (record { at = 0; kind = x } ∷ [])) o
 
-place_form : {ts rest : List Token} {p : _} {m : Mark} {equals : Token} {middle : List Token} → SpellsPlace ts rest p → rest ≡ equals ∷ middle → IsMark equals m → (m ≡ mark.OpenParen → ⊥) → form_at ts ≡ 2
+place_form : {ts rest : List Token} {p : _} {m : Mark} {equals : Token} {middle : List Token} → SpellsPlace ts rest p → rest ≡ equals ∷ middle → IsMark equals m → (m ≡ mark.OpenParen → ⊥)
+    → form_at ts ≡ 2
 place_form {equals = equals} {middle = middle} (bare {token = f} {rest = rest} n) e k other = by_name f rest n ∙ ap form_behind_name e ∙ behind_mark equals middle k other
 place_form (indexed {token = f} {opening = q} {tokens = w} n o d c) e k other = by_name f (q ∷ w) n ∙ behind_mark q w o (λ h. cc)
 
@@ -281,7 +286,8 @@ mutual
   pub unique_block : {ts rest ts' rest' : List Token} {b b' : List Stmt} → SpellsBlock ts rest b → SpellsBlock ts' rest' b' → ts ≡ ts' → (rest ≡ rest') × (b ≡ b')
   unique_block (braces o d c) (braces o' d' c') e = let both : _ × _ = unique_stmts d d' (cc) refl refl c c' in ((cc both.0), both.1)
 
-  pub unique_stmts : {ts rest ts' rest' behind behind' : List Token} {ss ss' : List Stmt} {closing closing' : Token} → SpellsStmts ts rest ss → SpellsStmts ts' rest' ss' → ts ≡ ts' → rest ≡ closing ∷ behind → rest' ≡ closing' ∷ behind' → IsMark closing mark.CloseBrace → IsMark closing' mark.CloseBrace → (rest ≡ rest') × (ss ≡ ss')
+  pub unique_stmts : {ts rest ts' rest' behind behind' : List Token} {ss ss' : List Stmt} {closing closing' : Token} → SpellsStmts ts rest ss → SpellsStmts ts' rest' ss' → ts ≡ ts'
+      → rest ≡ closing ∷ behind → rest' ≡ closing' ∷ behind' → IsMark closing mark.CloseBrace → IsMark closing' mark.CloseBrace → (rest ≡ rest') × (ss ≡ ss')
   unique_stmts none none e r r' c c' = (e, refl)
   unique_stmts none (one_more d m) e r r' c c' = absurd (no_stmt_closes d (sym e ∙ r) c)
   unique_stmts (one_more d m) none e r r' c c' = absurd (no_stmt_closes d (e ∙ r') c')
@@ -296,7 +302,8 @@ mutual
       let both : _ × _ = unique_block b b' (cc tests.0) in
       (both.0, (cc (tests.1, both.1)))
 
-  pub unique_else : {ts rest ts' rest' : List Token} {arms arms' : List Arm} {last last' : Option (List Stmt)} → SpellsElse ts rest arms last → SpellsElse ts' rest' arms' last' → ts ≡ ts' → NoElse rest → NoElse rest' → (rest ≡ rest') × (arms ≡ arms') × (last ≡ last')
+  pub unique_else : {ts rest ts' rest' : List Token} {arms arms' : List Arm} {last last' : Option (List Stmt)} → SpellsElse ts rest arms last → SpellsElse ts' rest' arms' last' → ts ≡ ts'
+      → NoElse rest → NoElse rest' → (rest ≡ rest') × (arms ≡ arms') × (last ≡ last')
   unique_else no_else no_else e n n' = (e, refl, refl)
   unique_else no_else (else_if k i a l) e n n' = absurd (begins_clash _ n e k)
   unique_else no_else (else_block k b) e n n' = absurd (begins_clash _ n e k)
@@ -316,7 +323,8 @@ mutual
       let both : _ × _ = unique_block body body' (cc widths.0) in
       (both.0, (cc (e, widths.0, widths.1, both.1)))
 
-  pub unique_routines : {ts rest ts' rest' behind behind' : List Token} {rs rs' : List RoutineBlock} {last last' : Token} → SpellsRoutines ts rest rs → SpellsRoutines ts' rest' rs' → ts ≡ ts' → rest ≡ last ∷ behind → rest' ≡ last' ∷ behind' → IsWord last word.Parend → IsWord last' word.Parend → (rest ≡ rest') × (rs ≡ rs')
+  pub unique_routines : {ts rest ts' rest' behind behind' : List Token} {rs rs' : List RoutineBlock} {last last' : Token} → SpellsRoutines ts rest rs → SpellsRoutines ts' rest' rs' → ts ≡ ts'
+      → rest ≡ last ∷ behind → rest' ≡ last' ∷ behind' → IsWord last word.Parend → IsWord last' word.Parend → (rest ≡ rest') × (rs ≡ rs')
   unique_routines no_routine no_routine e r r' c c' = (e, refl)
   unique_routines no_routine (one_routine (routine k o d c p i a m j b q body) ms) e r r' l l' = absurd (cc)
   unique_routines (one_routine (routine k o d c p i a m j b q body) ms) no_routine e r r' l l' = absurd (cc)
@@ -364,7 +372,8 @@ no_shared (tally w i n l) e k = cc
 module _ {T : Type 0} {spells : List Token → List Token → T → Type 0} (k : TokenKind)
     (one : (ts rest ts' rest' : List Token) (x x' : T) → spells ts rest x → spells ts' rest' x' → ts ≡ ts' → (rest ≡ rest') × (x ≡ x'))
     (never : (ts rest behind : List Token) (x : T) (first : Token) → spells ts rest x → ts ≡ first ∷ behind → first.kind ≡ k → ⊥) where
-  pub unique_each : {ts rest ts' rest' behind behind' : List Token} {xs xs' : List T} {last last' : Token} → Each spells ts rest xs → Each spells ts' rest' xs' → ts ≡ ts' → rest ≡ last ∷ behind → rest' ≡ last' ∷ behind' → last.kind ≡ k → last'.kind ≡ k → (rest ≡ rest') × (xs ≡ xs')
+  pub unique_each : {ts rest ts' rest' behind behind' : List Token} {xs xs' : List T} {last last' : Token} → Each spells ts rest xs → Each spells ts' rest' xs' → ts ≡ ts' → rest ≡ last ∷ behind
+      → rest' ≡ last' ∷ behind' → last.kind ≡ k → last'.kind ≡ k → (rest ≡ rest') × (xs ≡ xs')
   unique_each stop stop e r r' l l' = (e, refl)
   unique_each stop (again d m) e r r' l l' = absurd (never _ _ _ _ _ d (sym e ∙ r) l)
   unique_each (again d m) stop e r r' l l' = absurd (never _ _ _ _ _ d (e ∙ r') l')
@@ -387,4 +396,5 @@ same_tokens : (xs ys : List Token) (one two : Result (List Token) LexError) → 
 same_tokens xs ys one two e is is' = cc
 
 pub text_spells_one : TextSpellsOne
-text_spells_one text one two d d' = unique_program d.spelled d'.spelled (same_tokens d.tokens d'.tokens (Ok d.tokens) (Ok d'.tokens) (reads_one_way text (Ok d.tokens) (Ok d'.tokens) d.read d'.read) refl refl)
+text_spells_one text one two d d' = unique_program d.spelled d'.spelled (same_tokens d.tokens d'.tokens (Ok d.tokens) (Ok d'.tokens) (reads_one_way text (Ok d.tokens) (Ok d'.tokens) d.read d'.read)
+    refl refl)

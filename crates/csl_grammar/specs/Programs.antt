@@ -63,7 +63,8 @@ result_word gives.Bool = word.Bool
 -- a rule as often as it comes: {x}
 pub data Each {T : Type 0} (spells : List Token → List Token → T → Type 0) : List Token → List Token → List T → Type 0 where
   stop : {rest : List Token} → Each spells rest rest []
-  again : {tokens middle rest : List Token} {x : T} {xs : List T} → spells tokens middle x → Each spells middle rest xs → Each spells tokens rest (x ∷ xs)
+  again : {tokens middle rest : List Token} {x : T} {xs : List T} → spells tokens middle x → Each spells middle rest xs
+      → Each spells tokens rest (x ∷ xs)
 
 -- {"," x}
 pub data MoreOf {T : Type 0} (spells : List Token → List Token → T → Type 0) : List Token → List Token → List T → Type 0 where
@@ -81,7 +82,8 @@ pub data ListOf {T : Type 0} (spells : List Token → List Token → T → Type 
 pub data SpellsPlace : List Token → List Token → Place → Type 0 where
   bare : {token : Token} {rest : List Token} {name : Name} → IsName token name → SpellsPlace (token ∷ rest) rest (place name None)
   indexed : {token opening closing : Token} {tokens rest : List Token} {name : Name} {index : Expr} →
-      IsName token name → IsMark opening mark.OpenBracket → SpellsExpr whole tokens (closing ∷ rest) index → IsMark closing mark.CloseBracket →
+      IsName token name → IsMark opening mark.OpenBracket → SpellsExpr whole tokens (closing ∷ rest) index
+      → IsMark closing mark.CloseBracket →
       SpellsPlace (token ∷ opening ∷ tokens) rest (place name (Some index))
 
 -- NAME "(" [expr {"," expr}] ")"
@@ -127,9 +129,11 @@ mutual
         IsWord first word.If → SpellsArm tokens middle a → SpellsElse middle rest arms last →
         SpellsStmt (first ∷ tokens) rest (stmt first.at (form.If (a ∷ arms) last))
     while_loop : {first opening closing : Token} {tokens middle rest : List Token} {test : Expr} {body : List Stmt} →
-        IsWord first word.While → IsMark opening mark.OpenParen → SpellsExpr whole tokens (closing ∷ middle) test → IsMark closing mark.CloseParen →
+        IsWord first word.While → IsMark opening mark.OpenParen → SpellsExpr whole tokens (closing ∷ middle) test
+        → IsMark closing mark.CloseParen →
         SpellsBlock middle rest body → SpellsStmt (first ∷ opening ∷ tokens) rest (stmt first.at (form.While test body))
-    for_loop : {first opening one two closing : Token} {tokens middle behind tail rest : List Token} {start next : Stmt} {test : Expr} {body : List Stmt} →
+    for_loop : {first opening one two closing : Token} {tokens middle behind tail rest : List Token} {start next : Stmt} {test : Expr}
+        {body : List Stmt} →
         IsWord first word.For → IsMark opening mark.OpenParen →
         SpellsStart tokens (one ∷ middle) start → IsMark one mark.Semicolon →
         SpellsExpr whole middle (two ∷ behind) test → IsMark two mark.Semicolon →
@@ -139,9 +143,11 @@ mutual
     break_out : {first semicolon : Token} {rest : List Token} →
         IsWord first word.Break → IsMark semicolon mark.Semicolon → SpellsStmt (first ∷ semicolon ∷ rest) rest (stmt first.at form.Break)
     goes_on : {first semicolon : Token} {rest : List Token} →
-        IsWord first word.Continue → IsMark semicolon mark.Semicolon → SpellsStmt (first ∷ semicolon ∷ rest) rest (stmt first.at form.Continue)
+        IsWord first word.Continue → IsMark semicolon mark.Semicolon
+        → SpellsStmt (first ∷ semicolon ∷ rest) rest (stmt first.at form.Continue)
     returns : {first semicolon : Token} {rest : List Token} →
-        IsWord first word.Return → IsMark semicolon mark.Semicolon → SpellsStmt (first ∷ semicolon ∷ rest) rest (stmt first.at (form.Return None))
+        IsWord first word.Return → IsMark semicolon mark.Semicolon
+        → SpellsStmt (first ∷ semicolon ∷ rest) rest (stmt first.at (form.Return None))
     returns_value : {first semicolon : Token} {tokens rest : List Token} {e : Expr} →
         IsWord first word.Return → SpellsExpr whole tokens (semicolon ∷ rest) e → IsMark semicolon mark.Semicolon →
         SpellsStmt (first ∷ tokens) rest (stmt first.at (form.Return (Some e)))
@@ -193,12 +199,14 @@ mutual
 
   -- "routine" "[" expr "]" "(" "int" NAME "," "int" NAME ")" block
   pub data SpellsRoutine : List Token → List Token → RoutineBlock → Type 0 where
-    routine : {first bracket closing opening int1 name1 comma int2 name2 end : Token} {tokens behind rest : List Token} {width : Expr} {w i : Name} {body : List Stmt} →
+    routine : {first bracket closing opening int1 name1 comma int2 name2 end : Token} {tokens behind rest : List Token} {width : Expr}
+        {w i : Name} {body : List Stmt} →
         IsWord first word.Routine → IsMark bracket mark.OpenBracket →
         SpellsExpr whole tokens (closing ∷ opening ∷ int1 ∷ name1 ∷ comma ∷ int2 ∷ name2 ∷ end ∷ behind) width →
         IsMark closing mark.CloseBracket → IsMark opening mark.OpenParen → IsWord int1 word.Int → IsName name1 w → IsMark comma mark.Comma →
         IsWord int2 word.Int → IsName name2 i → IsMark end mark.CloseParen → SpellsBlock behind rest body →
-        SpellsRoutine (first ∷ bracket ∷ tokens) rest (roll-RoutineBlock (record { at = first.at; width = width; width_name = w; id_name = i; body = body }))
+        SpellsRoutine (first ∷ bracket ∷ tokens) rest (roll-RoutineBlock
+        (record { at = first.at; width = width; width_name = w; id_name = i; body = body }))
 
   -- {routine}
   pub data SpellsRoutines : List Token → List Token → List RoutineBlock → Type 0 where
@@ -208,7 +216,8 @@ mutual
 
 -- ["-"] NUMBER
 pub data SpellsValue : List Token → List Token → Valued → Type 0 where
-  plain : {token : Token} {rest : List Token} {n : ℤ} → token.kind ≡ kind.Number n → SpellsValue (token ∷ rest) rest (record { at = token.at; number = n })
+  plain : {token : Token} {rest : List Token} {n : ℤ} → token.kind ≡ kind.Number n
+      → SpellsValue (token ∷ rest) rest (record { at = token.at; number = n })
   minus : {sign token : Token} {rest : List Token} {n : ℕ} → IsMark sign mark.Minus → token.kind ≡ kind.Number (pos n) →
       SpellsValue (sign ∷ token ∷ rest) rest (record { at = sign.at; number = neg_ℤ (pos n) })
 
@@ -216,7 +225,8 @@ pub data SpellsValue : List Token → List Token → Valued → Type 0 where
 pub data SpellsInitial : List Token → List Token → Bool → List Valued → Type 0 where
   unlisted : {rest : List Token} → SpellsInitial rest rest false []
   listed : {equals opening closing : Token} {tokens rest : List Token} {vs : List Valued} →
-      IsMark equals mark.Assign → IsMark opening mark.OpenBrace → ListOf SpellsValue tokens (closing ∷ rest) vs → IsMark closing mark.CloseBrace →
+      IsMark equals mark.Assign → IsMark opening mark.OpenBrace → ListOf SpellsValue tokens (closing ∷ rest) vs
+      → IsMark closing mark.CloseBrace →
       SpellsInitial (equals ∷ opening ∷ tokens) rest true vs
 
 -- a shared declaration: a word, an array, or a tally word
@@ -224,17 +234,21 @@ pub data SpellsShared : List Token → List Token → Shared → Type 0 where
   -- "int" NAME ";"
   scalar : {first token semicolon : Token} {rest : List Token} {name : Name} →
       IsWord first word.Int → IsName token name → IsMark semicolon mark.Semicolon →
-      SpellsShared (first ∷ token ∷ semicolon ∷ rest) rest (record { name = name; kind = words.Ordinary; size = None; values = []; listed = false })
+      SpellsShared (first ∷ token ∷ semicolon ∷ rest) rest (record
+      { name = name; kind = words.Ordinary; size = None; values = []; listed = false })
   -- "int" NAME "[" NUMBER "]" ["=" "{" [value {"," value}] "}"] ";"
-  array : {first token opening number closing semicolon : Token} {tokens rest : List Token} {name : Name} {n : ℤ} {listed : Bool} {vs : List Valued} →
-      IsWord first word.Int → IsName token name → IsMark opening mark.OpenBracket → number.kind ≡ kind.Number n → IsMark closing mark.CloseBracket →
+  array : {first token opening number closing semicolon : Token} {tokens rest : List Token} {name : Name} {n : ℤ} {listed : Bool}
+      {vs : List Valued} →
+      IsWord first word.Int → IsName token name → IsMark opening mark.OpenBracket → number.kind ≡ kind.Number n
+      → IsMark closing mark.CloseBracket →
       SpellsInitial tokens (semicolon ∷ rest) listed vs → IsMark semicolon mark.Semicolon →
       SpellsShared (first ∷ token ∷ opening ∷ number ∷ closing ∷ tokens) rest
       (record { name = name; kind = words.Ordinary; size = Some (record { at = number.at; number = n }); values = vs; listed = listed })
   -- "tally" "int" NAME ";"
   tally : {first int token semicolon : Token} {rest : List Token} {name : Name} →
       IsWord first word.Tally → IsWord int word.Int → IsName token name → IsMark semicolon mark.Semicolon →
-      SpellsShared (first ∷ int ∷ token ∷ semicolon ∷ rest) rest (record { name = name; kind = words.Tally; size = None; values = []; listed = false })
+      SpellsShared (first ∷ int ∷ token ∷ semicolon ∷ rest) rest
+      (record { name = name; kind = words.Tally; size = None; values = []; listed = false })
 
 -- ("int"|"bool") NAME
 pub data SpellsParam : List Token → List Token → Param → Type 0 where
@@ -243,14 +257,18 @@ pub data SpellsParam : List Token → List Token → Param → Type 0 where
 
 -- ("int"|"bool"|"void") NAME "(" [param {"," param}] ")" block
 pub data SpellsFunction : List Token → List Token → Function → Type 0 where
-  function : {first token opening closing : Token} {tokens middle rest : List Token} {g : Gives} {name : Name} {ps : List Param} {body : List Stmt} →
+  function : {first token opening closing : Token} {tokens middle rest : List Token} {g : Gives} {name : Name} {ps : List Param}
+      {body : List Stmt} →
       IsWord first (result_word g) → IsName token name → IsMark opening mark.OpenParen → ListOf SpellsParam tokens (closing ∷ middle) ps →
       IsMark closing mark.CloseParen → SpellsBlock middle rest body →
       SpellsFunction (first ∷ token ∷ opening ∷ tokens) rest (record { name = name; gives = g; params = ps; body = body })
 
 -- "shared" "{" {shared} "}" {function} "main" block END
 pub data SpellsProgram : List Token → Program → Type 0 where
-  program : {first opening closing main end : Token} {tokens middle behind : List Token} {shared : List Shared} {functions : List Function} {body : List Stmt} →
-      IsWord first word.Shared → IsMark opening mark.OpenBrace → Each SpellsShared tokens (closing ∷ middle) shared → IsMark closing mark.CloseBrace →
-      Each SpellsFunction middle (main ∷ behind) functions → IsWord main word.Main → SpellsBlock behind (end ∷ []) body → end.kind ≡ kind.End →
+  program : {first opening closing main end : Token} {tokens middle behind : List Token} {shared : List Shared} {functions : List Function}
+      {body : List Stmt} →
+      IsWord first word.Shared → IsMark opening mark.OpenBrace → Each SpellsShared tokens (closing ∷ middle) shared
+      → IsMark closing mark.CloseBrace →
+      Each SpellsFunction middle (main ∷ behind) functions → IsWord main word.Main → SpellsBlock behind (end ∷ []) body
+      → end.kind ≡ kind.End →
       SpellsProgram (first ∷ opening ∷ tokens) (record { shared = shared; functions = functions; main = body })

@@ -1,5 +1,6 @@
 -- Where the first `*/` stands.
-use Rattle.std.proofs.Common.{◌≡◌, ◌≢◌, ◌≤◌, ◌<◌, ◌+◌, ◌-◌, ℕ, suc, List, [], ◌∷◌, ◌++◌, length, take, drop, get_or, ap, sym, ◌∙◌, arith, length-append, length-take, get_or-take, take-append-drop, drop-cons, ◌⊎◌, inl, inr, true, false}
+use Rattle.std.proofs.Common.{◌≡◌, ◌≢◌, ◌≤◌, ◌<◌, ◌+◌, ◌-◌, ℕ, suc, List, [], ◌∷◌, ◌++◌, length, take, drop, get_or, ap, sym, ◌∙◌, arith, length-append, length-take, get_or-take, take-append-drop}
+use Rattle.std.proofs.Common.{drop-cons, ◌⊎◌, inl, inr, true, false}
 use Rattle.std.proofs.lemmas.Bool.Decides.{leb_tells}
 use Rattle.std.proofs.Math.Dec.{leb}
 use Rattle.std.proofs.Math.Seq.{get_or-append_seam, take-suc}
@@ -38,7 +39,8 @@ closes_first bytes i n same within none first second =
     let whole : take n bytes ++ 42 ∷ [] ≡ take (suc n) bytes = ap (λ x. take n bytes ++ x ∷ []) (sym first) ∙ sym (take-suc bytes n 0 (omega (arith, same, within))) in
     let slash : get_or bytes (suc n) 0 ≡ 47 = ap (λ x. get_or bytes x 0) (sym same) ∙ second in
     let place : suc (suc n) ≡ n + 2 = omega arith in
-    let tail : drop (suc n) bytes ≡ 47 ∷ drop (n + 2) bytes = drop-cons bytes (suc n) 0 (omega (arith, same, within)) ∙ ap (λ x. x ∷ drop (suc (suc n)) bytes) slash ∙ ap (λ x. 47 ∷ drop x bytes) place in
+    let tail : drop (suc n) bytes ≡ 47 ∷ drop (n + 2) bytes = drop-cons bytes (suc n) 0 (omega (arith, same, within)) ∙ ap (λ x. x ∷ drop (suc (suc n)) bytes) slash
+    ∙ ap (λ x. 47 ∷ drop x bytes) place in
     let here : drop n bytes ≡ 42 ∷ drop (suc n) bytes = drop-cons bytes n 0 (omega (arith, same, within)) ∙ ap (λ x. x ∷ drop (suc n) bytes) first in (
       sym (take-append-drop n bytes) ∙ ap (λ x. take n bytes ++ x) (here ∙ ap (λ x. 42 ∷ x) tail),
       λ before after e. never_take bytes (suc n) (λ k below. none k (omega (arith, same, below))) before after (sym whole ∙ e),

@@ -5,7 +5,8 @@ use Rattle.csl_tree.specs.declared.token.Mark.{Mark}
 use Rattle.csl_tree.specs.declared.token.Mark.TheVariants as mark
 use Rattle.csl_lexer.specs.declared.scan.ByteClass.{ByteClass}
 use Rattle.csl_lexer.specs.declared.scan.ByteClass.TheVariants as class
-use Rattle.csl_lexer.specs.Tokens.{IsBlank, IsDigit, IsLetter, IsNameByte, IsInLine, IsInText, NeverCloses, value_of, spelled, Item, Gap, Run, Digits, Quoted, Sign, IsItem, blank, line, block, run, digits, quoted, sign, OpensComment, Longest}
+use Rattle.csl_lexer.specs.Tokens.{IsBlank, IsDigit, IsLetter, IsNameByte, IsInLine, IsInText, NeverCloses, value_of, spelled, Item, Gap, Run, Digits, Quoted, Sign, IsItem, blank, line, block, run}
+use Rattle.csl_lexer.specs.Tokens.{digits, quoted, sign, OpensComment, Longest}
 use Rattle.csl_lexer.specs.Steps.{IsIn, BeginsOutside, LongestMark, IsOther}
 
 -- bytes of a class go no further than a run of them that ends
@@ -125,12 +126,14 @@ run_longest b bytes rest letter all out = record {
     at_most _ _ (blank w) behind e = omega arith
     at_most _ _ (line w) behind e = let same : b ≡ 47 = cc in absurd (omega (arith, letter_low b letter))
     at_most _ _ (block body w) behind e = let same : b ≡ 47 = cc in absurd (omega (arith, letter_low b letter))
-    at_most _ _ (run {bytes = ys} l w) behind e = let tails : bytes ++ rest ≡ ys ++ behind = cc in let below : length ys ≤ length bytes = run_bound class.InName bytes rest ys behind w tails out in omega arith
+    at_most _ _ (run {bytes = ys} l w) behind e = let tails : bytes ++ rest ≡ ys ++ behind = cc in let below : length ys ≤ length bytes = run_bound class.InName bytes rest ys behind w tails out in
+        omega arith
     at_most _ _ (digits {b = y} l w) behind e = let same : b ≡ y = cc in absurd (omega (arith, letter_low b letter))
     at_most _ _ (quoted ys w) behind e = let same : b ≡ 34 = cc in absurd (omega (arith, letter_low b letter))
     at_most _ _ (sign m) behind e = absurd ((mark_front m b (bytes ++ rest) behind e).3 letter)
 
-pub digits_longest : (b : ℕ) (bytes rest : List ℕ) → IsDigit b → AllByRecursion IsDigit bytes → BeginsOutside class.InNumber rest → Longest (b ∷ bytes ++ rest) (b ∷ bytes) rest (Digits (value_of (b ∷ bytes)))
+pub digits_longest : (b : ℕ) (bytes rest : List ℕ) → IsDigit b → AllByRecursion IsDigit bytes → BeginsOutside class.InNumber rest
+    → Longest (b ∷ bytes ++ rest) (b ∷ bytes) rest (Digits (value_of (b ∷ bytes)))
 digits_longest b bytes rest digit all out = record {
   split = refl;
   is_item = digits digit all;
@@ -143,7 +146,8 @@ digits_longest b bytes rest digit all out = record {
     at_most _ _ (line w) behind e = let same : b ≡ 47 = cc in absurd (omega arith)
     at_most _ _ (block body w) behind e = let same : b ≡ 47 = cc in absurd (omega arith)
     at_most _ _ (run {b = y} l w) behind e = let same : b ≡ y = cc in absurd (omega (arith, letter_low y l))
-    at_most _ _ (digits {bytes = ys} l w) behind e = let tails : bytes ++ rest ≡ ys ++ behind = cc in let below : length ys ≤ length bytes = run_bound class.InNumber bytes rest ys behind w tails out in omega arith
+    at_most _ _ (digits {bytes = ys} l w) behind e = let tails : bytes ++ rest ≡ ys ++ behind = cc in let below : length ys ≤ length bytes = run_bound class.InNumber bytes rest ys behind w tails
+        out in omega arith
     at_most _ _ (quoted ys w) behind e = let same : b ≡ 34 = cc in absurd (omega arith)
     at_most _ _ (sign m) behind e = absurd ((mark_front m b (bytes ++ rest) behind e).2 digit)
 
@@ -200,7 +204,8 @@ line_longest body rest all out = record {
   where
     at_most : (other : List ℕ) (kind : Item) → IsItem other kind → (behind : List ℕ) → 47 ∷ 47 ∷ body ++ rest ≡ other ++ behind → length other ≤ suc (suc (length body))
     at_most _ _ (blank w) behind e = omega arith
-    at_most _ _ (line {bytes = ys} w) behind e = let tails : body ++ rest ≡ ys ++ behind = cc in let below : length ys ≤ length body = run_bound class.InLine body rest ys behind w tails out in omega arith
+    at_most _ _ (line {bytes = ys} w) behind e = let tails : body ++ rest ≡ ys ++ behind = cc in let below : length ys ≤ length body = run_bound class.InLine body rest ys behind w tails out in omega
+        arith
     at_most _ _ (block ys w) behind e = absurd (omega (arith, seconds 47 47 42 _ _ e))
     at_most _ _ (run {b = y} l w) behind e = absurd (omega (arith, heads 47 y _ _ e, letter_low y l))
     at_most _ _ (digits {b = y} l w) behind e = absurd (omega (arith, heads 47 y _ _ e))

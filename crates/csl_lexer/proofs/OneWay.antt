@@ -1,5 +1,6 @@
 -- A text is read in one way: one token list, or one first fault.
-use Rattle.std.proofs.Common.{◌≡◌, ◌≤◌, ◌<◌, ◌+◌, ◌⊎◌, inl, inr, ℕ, Bool, true, false, cond, List, [], ◌∷◌, ◌++◌, Option, Some, Result, Err, length, refl, ap, sym, ◌∙◌, subst, arith, append_assoc, append-nil, nat_eq, find, ◌^◌, length-append}
+use Rattle.std.proofs.Common.{◌≡◌, ◌≤◌, ◌<◌, ◌+◌, ◌⊎◌, inl, inr, ℕ, Bool, true, false, cond, List, [], ◌∷◌, ◌++◌, Option, Some, Result, Err, length, refl, ap, sym, ◌∙◌, subst, arith, append_assoc}
+use Rattle.std.proofs.Common.{append-nil, nat_eq, find, ◌^◌, length-append}
 use Rattle.std.specs.List.{AllByRecursion}
 use Rattle.csl_tree.specs.declared.token.Token.{Token}
 use Rattle.csl_tree.specs.declared.token.TokenKind.{TokenKind}
@@ -9,7 +10,9 @@ use Rattle.csl_tree.specs.declared.token.Keyword.TheVariants as word
 use Rattle.csl_tree.specs.declared.token.Mark.{Mark}
 use Rattle.csl_tree.specs.declared.token.Mark.TheVariants as mark
 use Rattle.csl_lexer.specs.declared.LexError.{LexError}
-use Rattle.csl_lexer.specs.Tokens.{IsInText, spelled, written, value_of, Item, Gap, Run, Digits, Quoted, Sign, IsItem, blank, line, block, run, digits, quoted, sign, OpensComment, OpensText, Longest, IsWord, keyword, name, IsToken, run_token, number_token, text_token, mark_token, IsFault, bad_byte, long_name, long_number, open_comment, open_text, Reads, at_end, gap, token, fault_here}
+use Rattle.csl_lexer.specs.Tokens.{IsInText, spelled, written, value_of, Item, Gap, Run, Digits, Quoted, Sign, IsItem, blank, line, block, run, digits, quoted, sign, OpensComment, OpensText, Longest}
+use Rattle.csl_lexer.specs.Tokens.{IsWord, keyword, name, IsToken, run_token, number_token, text_token, mark_token, IsFault, bad_byte, long_name, long_number, open_comment, open_text, Reads, at_end}
+use Rattle.csl_lexer.specs.Tokens.{gap, token, fault_here}
 use Rattle.csl_lexer.specs.Laws.{ReadsOneWay}
 use Rattle.csl_lexer.proofs.Items.{letter_low, blank_high, mark_front, heads, item_some}
 
@@ -21,7 +24,9 @@ same_bytes (x ∷ xs) [] = false
 same_bytes (x ∷ xs) (y ∷ ys) = cond (nat_eq x y) (same_bytes xs ys) false
 
 abbrev mark_of : List ℕ → Option Mark
-mark_of bytes = find (λ m. same_bytes (spelled m) bytes) (mark.OpenBrace ∷ mark.CloseBrace ∷ mark.OpenParen ∷ mark.CloseParen ∷ mark.OpenBracket ∷ mark.CloseBracket ∷ mark.Comma ∷ mark.Semicolon ∷ mark.Assign ∷ mark.AddAssign ∷ mark.Plus ∷ mark.Minus ∷ mark.Star ∷ mark.Slash ∷ mark.Percent ∷ mark.Bang ∷ mark.Equal ∷ mark.NotEqual ∷ mark.Less ∷ mark.LessEqual ∷ mark.Greater ∷ mark.GreaterEqual ∷ mark.AndAnd ∷ mark.OrOr ∷ [])
+mark_of bytes = find (λ m. same_bytes (spelled m) bytes) (mark.OpenBrace ∷ mark.CloseBrace ∷ mark.OpenParen ∷ mark.CloseParen ∷ mark.OpenBracket ∷ mark.CloseBracket ∷ mark.Comma ∷ mark.Semicolon ∷
+    mark.Assign ∷ mark.AddAssign ∷ mark.Plus ∷ mark.Minus ∷ mark.Star ∷ mark.Slash ∷ mark.Percent ∷ mark.Bang ∷ mark.Equal ∷ mark.NotEqual ∷ mark.Less ∷ mark.LessEqual ∷ mark.Greater ∷
+    mark.GreaterEqual ∷ mark.AndAnd ∷ mark.OrOr ∷ [])
 
 mark_of-spelled : (m : Mark) → mark_of (spelled m) ≡ Some m
 mark_of-spelled mark.OpenBrace = refl
@@ -50,7 +55,8 @@ mark_of-spelled mark.AndAnd = refl
 mark_of-spelled mark.OrOr = refl
 
 abbrev word_of : List ℕ → Option Keyword
-word_of bytes = find (λ w. same_bytes (written w) bytes) (word.Shared ∷ word.Int ∷ word.Bool ∷ word.Void ∷ word.Tally ∷ word.Main ∷ word.Routine ∷ word.Parbegin ∷ word.Parend ∷ word.If ∷ word.Else ∷ word.While ∷ word.For ∷ word.Break ∷ word.Continue ∷ word.Return ∷ word.Assert ∷ word.Print ∷ word.True ∷ word.False ∷ word.Least ∷ word.Greatest ∷ [])
+word_of bytes = find (λ w. same_bytes (written w) bytes) (word.Shared ∷ word.Int ∷ word.Bool ∷ word.Void ∷ word.Tally ∷ word.Main ∷ word.Routine ∷ word.Parbegin ∷ word.Parend ∷ word.If ∷ word.Else ∷
+    word.While ∷ word.For ∷ word.Break ∷ word.Continue ∷ word.Return ∷ word.Assert ∷ word.Print ∷ word.True ∷ word.False ∷ word.Least ∷ word.Greatest ∷ [])
 
 word_of-written : (w : Keyword) → word_of (written w) ≡ Some w
 word_of-written word.Shared = refl
@@ -271,11 +277,13 @@ fault_same (bad_byte never text) (open_comment o) same = absurd (never (47 ∷ [
 fault_same (bad_byte never text) (open_text t) same = absurd (text (subst OpensText (sym same) t))
 fault_same (long_name {piece = q} {rest = s} l h) (bad_byte never text) same = absurd (never q s (Run q) (sym same ∙ l.split) l.is_item)
 fault_same (long_name l h) (long_name l' h') same = refl
-fault_same (long_name {piece = q} {rest = s} l h) (long_number {n = n} {piece = q'} {rest = s'} l' h') same = let on : List ℕ → Type 0 = λ x. Longest x q' s' (Digits n) in absurd (run_not_digits l (subst on (sym same) l'))
+fault_same (long_name {piece = q} {rest = s} l h) (long_number {n = n} {piece = q'} {rest = s'} l' h') same = let on : List ℕ
+    → Type 0 = λ x. Longest x q' s' (Digits n) in absurd (run_not_digits l (subst on (sym same) l'))
 fault_same (long_name {piece = q} {rest = s} l h) (open_comment o) same = absurd (l.closed (subst OpensComment (sym same) o))
 fault_same (long_name l h) (open_text t) same = absurd (at_text _ (subst OpensText (sym same) t) l.split l.is_item)
 fault_same (long_number {n = n} {piece = q} {rest = s} l h) (bad_byte never text) same = absurd (never q s (Digits n) (sym same ∙ l.split) l.is_item)
-fault_same (long_number {n = n} {piece = q} {rest = s} l h) (long_name {piece = q'} {rest = s'} l' h') same = let on : List ℕ → Type 0 = λ x. Longest x q s (Digits n) in absurd (run_not_digits l' (subst on same l))
+fault_same (long_number {n = n} {piece = q} {rest = s} l h) (long_name {piece = q'} {rest = s'} l' h') same = let on : List ℕ
+    → Type 0 = λ x. Longest x q s (Digits n) in absurd (run_not_digits l' (subst on same l))
 fault_same (long_number l h) (long_number l' h') same = refl
 fault_same (long_number l h) (open_comment o) same = absurd (l.closed (subst OpensComment (sym same) o))
 fault_same (long_number l h) (open_text t) same = absurd (at_text _ (subst OpensText (sym same) t) l.split l.is_item)
@@ -329,10 +337,12 @@ one_way {at = at} {at' = at'} (token {item = i} {k = k} {outcome = o} l t d) (to
     let on : ℕ → Type 0 = λ x. IsToken x i k in
     let kinds : k ≡ k' = token_same (subst on here t) t' (both_longest l l' same).2 in
     cc
-one_way (token {piece = p} {rest = r} {item = i} l t d) (fault_here f) here same = let on : List ℕ → Type 0 = λ x. Longest x p r i in absurd (token_clash (fault_clash p r i f (subst on same l)) t refl)
+one_way (token {piece = p} {rest = r} {item = i} l t d) (fault_here f) here same = let on : List ℕ
+    → Type 0 = λ x. Longest x p r i in absurd (token_clash (fault_clash p r i f (subst on same l)) t refl)
 one_way (fault_here f) at_end here same = absurd (no_fault_in_nothing f same)
 one_way (fault_here f) (gap {piece = p} {rest = r} l d) here same = let on : List ℕ → Type 0 = λ x. Longest x p r Gap in absurd (gap_clash (fault_clash p r Gap f (subst on (sym same) l)) refl)
-one_way (fault_here f) (token {piece = p} {rest = r} {item = i} l t d) here same = let on : List ℕ → Type 0 = λ x. Longest x p r i in absurd (token_clash (fault_clash p r i f (subst on (sym same) l)) t refl)
+one_way (fault_here f) (token {piece = p} {rest = r} {item = i} l t d) here same = let on : List ℕ
+    → Type 0 = λ x. Longest x p r i in absurd (token_clash (fault_clash p r i f (subst on (sym same) l)) t refl)
 one_way (fault_here {bytes = bytes} {e = e} f) (fault_here f') here same =
     let on : ℕ → Type 0 = λ x. IsFault x bytes e in
     ap (λ x. Err x) (fault_same (subst on here f) f' same)

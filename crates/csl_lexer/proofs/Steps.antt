@@ -1,5 +1,6 @@
 -- One step of the reader, and the rest of the text behind it.
-use Rattle.std.proofs.Common.{◌≡◌, ◌≢◌, ◌≤◌, ◌<◌, ◌+◌, ◌⊎◌, inl, inr, ℕ, suc, zero, List, [], ◌∷◌, ◌++◌, Option, Some, None, Result, Ok, Err, length, take, drop, length-drop, take-append-drop, length-take, length-append, drop-cons, get_or-drop, true, false, ◌-◌, get_or, refl, ap, sym, ◌∙◌, subst, arith, append_assoc, pos, ◌^◌}
+use Rattle.std.proofs.Common.{◌≡◌, ◌≢◌, ◌≤◌, ◌<◌, ◌+◌, ◌⊎◌, inl, inr, ℕ, suc, zero, List, [], ◌∷◌, ◌++◌, Option, Some, None, Result, Ok, Err, length, take, drop, length-drop, take-append-drop}
+use Rattle.std.proofs.Common.{length-take, length-append, drop-cons, get_or-drop, true, false, ◌-◌, get_or, refl, ap, sym, ◌∙◌, subst, arith, append_assoc, pos, ◌^◌}
 use Rattle.std.specs.List.{AllByRecursion}
 use Rattle.std.proofs.lemmas.List.{drop-drop, drop_all, take_all}
 use Rattle.std.proofs.lemmas.Bool.Decides.{leb_tells}
@@ -11,7 +12,9 @@ use Rattle.csl_tree.specs.declared.token.TokenKind.TheVariants as kind
 use Rattle.csl_lexer.specs.declared.LexError.{LexError}
 use Rattle.csl_lexer.specs.declared.LexError.TheVariants as fault
 use Rattle.csl_lexer.specs.declared.scan.ByteClass.TheVariants as class
-use Rattle.csl_lexer.specs.Tokens.{Reads, gap, token, at_end, fault_here, before, Item, Run, Digits, Sign, IsItem, blank, line, block, run, digits, quoted, sign, Longest, IsFault, bad_byte, long_name, long_number, open_comment, open_text, IsInLine, IsInText, IsBlank, IsDigit, IsLetter, IsNameByte, IsWord, NeverCloses, value_of, spelled, run_token, number_token, text_token, mark_token}
+use Rattle.csl_lexer.specs.Tokens.{Reads, gap, token, at_end, fault_here, before, Item, Run, Digits, Sign, IsItem, blank, line, block, run, digits, quoted, sign, Longest, IsFault, bad_byte, long_name}
+use Rattle.csl_lexer.specs.Tokens.{long_number, open_comment, open_text, IsInLine, IsInText, IsBlank, IsDigit, IsLetter, IsNameByte, IsWord, NeverCloses, value_of, spelled, run_token, number_token}
+use Rattle.csl_lexer.specs.Tokens.{text_token, mark_token}
 use Rattle.csl_tree.specs.declared.token.Mark.{Mark}
 use Rattle.csl_lexer.specs.Steps.{Takes, takes_gap, takes_token, BeginsOutside, FirstCloses, LongestMark, NoMark, IsOther}
 use Rattle.csl_lexer.proofs.Items.{quoted_longest, blank_longest, run_longest, digits_longest, line_longest, block_longest, sign_longest, item_some}
@@ -32,7 +35,8 @@ before_both xs ys (Err e) = refl
 behind_piece : (bytes piece rest : List ℕ) → bytes ≡ piece ++ rest → drop (length piece) bytes ≡ rest
 behind_piece bytes piece rest e = ap (λ x. drop (length piece) x) e ∙ drop-append_seam piece rest
 
-step : {at : ℕ} {bytes : List ℕ} {k : Option TokenKind} {n : ℕ} (outcome : Result (List Token) LexError) → Takes at bytes k n → Reads (at + n) (drop n bytes) outcome → Reads at bytes (before (added at k) outcome)
+step : {at : ℕ} {bytes : List ℕ} {k : Option TokenKind} {n : ℕ} (outcome : Result (List Token) LexError) → Takes at bytes k n → Reads (at + n) (drop n bytes) outcome
+    → Reads at bytes (before (added at k) outcome)
 step {at = at} {bytes = bytes} outcome (takes_gap {piece = piece} {rest = rest} longest) r =
     let on : List ℕ → Type 0 = λ x. Reads (at + length piece) x outcome in
     let to : Result (List Token) LexError → Type 0 = λ x. Reads at bytes x in
@@ -42,7 +46,8 @@ step {at = at} {bytes = bytes} outcome (takes_token {piece = piece} {rest = rest
     token longest is (subst on (behind_piece bytes piece rest longest.split) r)
 
 module _ (text : List ℕ) (at : ℕ) (tokens : List Token) (goes_on : (outcome : Result (List Token) LexError) → Reads at (drop at text) outcome → Reads 0 text (before tokens outcome)) where
-  pub goes_on_more : (k : Option TokenKind) (n : ℕ) (more : List Token) → more ≡ tokens ++ added at k → Takes at (drop at text) k n → (outcome : Result (List Token) LexError) → Reads (at + n) (drop (at + n) text) outcome → Reads 0 text (before more outcome)
+  pub goes_on_more : (k : Option TokenKind) (n : ℕ) (more : List Token) → more ≡ tokens ++ added at k → Takes at (drop at text) k n → (outcome : Result (List Token) LexError)
+      → Reads (at + n) (drop (at + n) text) outcome → Reads 0 text (before more outcome)
   goes_on_more k n more is takes outcome r =
       let on : List ℕ → Type 0 = λ x. Reads (at + n) x outcome in
       let to : Result (List Token) LexError → Type 0 = λ x. Reads 0 text x in
@@ -102,7 +107,8 @@ pub opens_comment : (at : ℕ) (body : List ℕ) → NeverCloses body → IsFaul
 opens_comment at body never = open_comment (record { body = body; split = refl; never = never })
 
 -- a text, whose bytes behind the first quote were counted
-pub takes_text : (at : ℕ) (inner : List ℕ) (n : ℕ) → n < length inner → AllByRecursion IsInText (take n inner) → get_or inner n 0 ≡ 34 → Takes at (34 ∷ inner) (Some (kind.Text (record { text = take n inner; at = at }))) (n + 2)
+pub takes_text : (at : ℕ) (inner : List ℕ) (n : ℕ) → n < length inner → AllByRecursion IsInText (take n inner) → get_or inner n 0 ≡ 34
+    → Takes at (34 ∷ inner) (Some (kind.Text (record { text = take n inner; at = at }))) (n + 2)
 takes_text at inner n within all quote =
     let k : Option TokenKind = Some (kind.Text (record { text = take n inner; at = at })) in
     let ends : drop n inner ≡ 34 ∷ drop (suc n) inner = drop-cons inner n 0 within ∙ ap (λ x. x ∷ drop (suc n) inner) quote in
@@ -124,7 +130,8 @@ text_stops : (rest : List ℕ) → BeginsOutside class.InText rest → (0 < leng
 text_stops [] out other = inl refl
 text_stops (b ∷ more) out other = inr (more, ap (λ x. x ∷ more) (line_end b out (other (omega arith))))
 
-pub opens_text : (at : ℕ) (inner : List ℕ) (n : ℕ) → n ≤ length inner → AllByRecursion IsInText (take n inner) → BeginsOutside class.InText (drop n inner) → (n < length inner → get_or inner n 0 ≢ 34) → IsFault at (34 ∷ inner) (fault.OpenText at)
+pub opens_text : (at : ℕ) (inner : List ℕ) (n : ℕ) → n ≤ length inner → AllByRecursion IsInText (take n inner) → BeginsOutside class.InText (drop n inner) → (n < length inner → get_or inner n 0 ≢ 34)
+    → IsFault at (34 ∷ inner) (fault.OpenText at)
 opens_text at inner n within all out quote = open_text (record {
   inner = take n inner;
   rest = drop n inner;
@@ -134,7 +141,8 @@ opens_text at inner n within all out quote = open_text (record {
 })
 
 -- a word, whose bytes were counted
-word_longest : (bytes : List ℕ) (n : ℕ) → 0 < length bytes → IsLetter (get_or bytes 0 0) → AllByRecursion IsNameByte (take n bytes) → BeginsOutside class.InName (drop n bytes) → Longest bytes (take n bytes) (drop n bytes) (Run (take n bytes))
+word_longest : (bytes : List ℕ) (n : ℕ) → 0 < length bytes → IsLetter (get_or bytes 0 0) → AllByRecursion IsNameByte (take n bytes) → BeginsOutside class.InName (drop n bytes)
+    → Longest bytes (take n bytes) (drop n bytes) (Run (take n bytes))
 word_longest [] n some letter all out = absurd (omega arith)
 word_longest (b ∷ tail) zero some letter all out = absurd (out (inl letter))
 word_longest (b ∷ tail) (suc n) some letter all out =
@@ -145,30 +153,35 @@ word_longest (b ∷ tail) (suc n) some letter all out =
 piece_length : (bytes : List ℕ) (n : ℕ) → n ≤ length bytes → length (take n bytes) ≡ n
 piece_length bytes n within = omega (arith, length-take n bytes, within)
 
-pub takes_word : (at : ℕ) (bytes : List ℕ) (n : ℕ) (k : TokenKind) → 0 < length bytes → IsLetter (get_or bytes 0 0) → n ≤ length bytes → AllByRecursion IsNameByte (take n bytes) → BeginsOutside class.InName (drop n bytes) → n ≤ 64 → IsWord at (take n bytes) k → Takes at bytes (Some k) n
+pub takes_word : (at : ℕ) (bytes : List ℕ) (n : ℕ) (k : TokenKind) → 0 < length bytes → IsLetter (get_or bytes 0 0) → n ≤ length bytes → AllByRecursion IsNameByte (take n bytes)
+    → BeginsOutside class.InName (drop n bytes) → n ≤ 64 → IsWord at (take n bytes) k → Takes at bytes (Some k) n
 takes_word at bytes n k some letter within all out short is =
     let by : ℕ → Type 0 = λ x. Takes at bytes (Some k) x in
     let size : length (take n bytes) ≡ n = piece_length bytes n within in
     subst by size (takes_token (word_longest bytes n some letter all out) (run_token (omega (arith, size, short)) is))
 
-pub long_word : (at : ℕ) (bytes : List ℕ) (n : ℕ) → 0 < length bytes → IsLetter (get_or bytes 0 0) → n ≤ length bytes → AllByRecursion IsNameByte (take n bytes) → BeginsOutside class.InName (drop n bytes) → 64 < n → IsFault at bytes (fault.LongName at)
+pub long_word : (at : ℕ) (bytes : List ℕ) (n : ℕ) → 0 < length bytes → IsLetter (get_or bytes 0 0) → n ≤ length bytes → AllByRecursion IsNameByte (take n bytes)
+    → BeginsOutside class.InName (drop n bytes) → 64 < n → IsFault at bytes (fault.LongName at)
 long_word at bytes n some letter within all out long =
     long_name (word_longest bytes n some letter all out) (omega (arith, piece_length bytes n within, long))
 
 -- a number, whose digits were counted
-number_longest : (bytes : List ℕ) (n : ℕ) → 0 < length bytes → IsDigit (get_or bytes 0 0) → AllByRecursion IsDigit (take n bytes) → BeginsOutside class.InNumber (drop n bytes) → Longest bytes (take n bytes) (drop n bytes) (Digits (value_of (take n bytes)))
+number_longest : (bytes : List ℕ) (n : ℕ) → 0 < length bytes → IsDigit (get_or bytes 0 0) → AllByRecursion IsDigit (take n bytes) → BeginsOutside class.InNumber (drop n bytes)
+    → Longest bytes (take n bytes) (drop n bytes) (Digits (value_of (take n bytes)))
 number_longest [] n some digit all out = absurd (omega arith)
 number_longest (b ∷ tail) zero some digit all out = absurd (out digit)
 number_longest (b ∷ tail) (suc n) some digit all out =
     let whole : List ℕ → Type 0 = λ x. Longest (b ∷ x) (b ∷ take n tail) (drop n tail) (Digits (value_of (b ∷ take n tail))) in
     subst whole (take-append-drop n tail) (digits_longest b (take n tail) (drop n tail) digit all.1 out)
 
-pub takes_number : (at : ℕ) (bytes : List ℕ) (n : ℕ) → 0 < length bytes → IsDigit (get_or bytes 0 0) → n ≤ length bytes → AllByRecursion IsDigit (take n bytes) → BeginsOutside class.InNumber (drop n bytes) → value_of (take n bytes) < 2 ^ 63 → Takes at bytes (Some (kind.Number (pos (value_of (take n bytes))))) n
+pub takes_number : (at : ℕ) (bytes : List ℕ) (n : ℕ) → 0 < length bytes → IsDigit (get_or bytes 0 0) → n ≤ length bytes → AllByRecursion IsDigit (take n bytes)
+    → BeginsOutside class.InNumber (drop n bytes) → value_of (take n bytes) < 2 ^ 63 → Takes at bytes (Some (kind.Number (pos (value_of (take n bytes))))) n
 takes_number at bytes n some digit within all out small =
     let by : ℕ → Type 0 = λ x. Takes at bytes (Some (kind.Number (pos (value_of (take n bytes))))) x in
     subst by (piece_length bytes n within) (takes_token (number_longest bytes n some digit all out) (number_token small))
 
-pub large_number : (at : ℕ) (bytes : List ℕ) (n : ℕ) → 0 < length bytes → IsDigit (get_or bytes 0 0) → AllByRecursion IsDigit (take n bytes) → BeginsOutside class.InNumber (drop n bytes) → 2 ^ 63 ≤ value_of (take n bytes) → IsFault at bytes (fault.LongNumber at)
+pub large_number : (at : ℕ) (bytes : List ℕ) (n : ℕ) → 0 < length bytes → IsDigit (get_or bytes 0 0) → AllByRecursion IsDigit (take n bytes) → BeginsOutside class.InNumber (drop n bytes)
+    → 2 ^ 63 ≤ value_of (take n bytes) → IsFault at bytes (fault.LongNumber at)
 large_number at bytes n some digit all out large = long_number (number_longest bytes n some digit all out) large
 
 -- a mark

@@ -6,7 +6,8 @@ use Rattle.csl_lexer.specs.declared.scan.ByteClass.{ByteClass}
 use Rattle.csl_lexer.specs.declared.scan.ByteClass.TheVariants as class
 use Rattle.csl_lexer.specs.declared.LexError.{LexError}
 use Rattle.csl_lexer.specs.declared.LexError.TheVariants as fault
-use Rattle.csl_lexer.specs.Tokens.{IsDigit, IsNameByte, IsInLine, IsInText, NeverCloses, spelled, Item, Gap, Sign, IsItem, OpensComment, OpensText, Longest, IsToken, IsFault}
+use Rattle.csl_lexer.specs.Tokens.{IsDigit, IsNameByte, IsInLine, IsInText, NeverCloses, spelled, Item, Gap, Sign, IsItem, OpensComment}
+use Rattle.csl_lexer.specs.Tokens.{OpensText, Longest, IsToken, IsFault}
 
 -- the bytes that may go on in a name, a number, a line comment and a text
 abbrev pub IsIn : ByteClass → ℕ → Type 0
@@ -22,7 +23,8 @@ BeginsOutside c (b ∷ bytes) = IsIn c b → ⊥
 
 -- the first `*/` stands behind so many bytes
 abbrev pub FirstCloses : List ℕ → ℕ → Type 0
-FirstCloses bytes n = (bytes ≡ take n bytes ++ 42 ∷ 47 ∷ drop (n + 2) bytes) × NeverCloses (take n bytes ++ 42 ∷ []) × (n + 2 ≤ length bytes)
+FirstCloses bytes n = (bytes ≡ take n bytes ++ 42 ∷ 47 ∷ drop (n + 2) bytes) × NeverCloses (take n bytes ++ 42 ∷ [])
+    × (n + 2 ≤ length bytes)
 
 -- no mark is at the front of the bytes
 abbrev pub NoMark : List ℕ → Type 0
@@ -36,14 +38,16 @@ pub record LongestMark (bytes : List ℕ) (m : Mark) (n : ℕ) : Type 0 where
 
 -- at the front of the bytes stands a mark or nothing
 pub record IsOther (bytes : List ℕ) : Type 0 where
-  pub sign_only : (piece behind : List ℕ) (item : Item) → bytes ≡ piece ++ behind → IsItem piece item → (m : Mark) × (item ≡ Sign m) × (piece ≡ spelled m)
+  pub sign_only : (piece behind : List ℕ) (item : Item) → bytes ≡ piece ++ behind → IsItem piece item
+      → (m : Mark) × (item ≡ Sign m) × (piece ≡ spelled m)
   pub closed : OpensComment bytes → ⊥
   pub no_text : OpensText bytes → ⊥
 
 -- at the front of the bytes stands a blank or a comment, or this token, and takes so many bytes
 pub data Takes (at : ℕ) (bytes : List ℕ) : Option TokenKind → ℕ → Type 0 where
   takes_gap : {piece rest : List ℕ} → Longest bytes piece rest Gap → Takes at bytes None (length piece)
-  takes_token : {piece rest : List ℕ} {item : Item} {k : TokenKind} → Longest bytes piece rest item → IsToken at item k → Takes at bytes (Some k) (length piece)
+  takes_token : {piece rest : List ℕ} {item : Item} {k : TokenKind} → Longest bytes piece rest item → IsToken at item k
+      → Takes at bytes (Some k) (length piece)
 
 -- one step finds what stands at the front, or its fault
 abbrev pub Steps : ℕ → List ℕ → Result (Option TokenKind × ℕ) LexError → Type 0

@@ -1,5 +1,6 @@
 -- The tokens of a text: read by longest match from the left, with blanks and comments dropped, or the first fault.
-use Rattle.std.specs.Prelude.{◌≡◌, ◌≢◌, ◌≤◌, ◌<◌, ◌+◌, ◌*◌, ◌-◌, ◌^◌, ◌⊎◌, ℕ, pos, List, [], ◌∷◌, ◌++◌, length, fold, Result, Ok, Err, codes}
+use Rattle.std.specs.Prelude.{◌≡◌, ◌≢◌, ◌≤◌, ◌<◌, ◌+◌, ◌*◌, ◌-◌, ◌^◌, ◌⊎◌, ℕ, pos, List, [], ◌∷◌, ◌++◌, length, fold, Result, Ok, Err}
+use Rattle.std.specs.Prelude.{codes}
 use Rattle.std.specs.List.{AllByRecursion}
 use Rattle.csl_tree.specs.declared.token.Token.{Token}
 use Rattle.csl_tree.specs.declared.token.TokenKind.{TokenKind}
@@ -145,7 +146,8 @@ pub record Longest (bytes piece rest : List ℕ) (item : Item) : Type 0 where
 -- the keyword or the name that a run of letters and digits at a place is
 pub data IsWord : ℕ → List ℕ → TokenKind → Type 0 where
   keyword : {at : ℕ} {w : Keyword} → IsWord at (written w) (kind.Word w)
-  name : {at : ℕ} {bytes : List ℕ} → ((w : Keyword) → bytes ≡ written w → ⊥) → IsWord at bytes (kind.Named (record { text = bytes; at = at }))
+  name : {at : ℕ} {bytes : List ℕ} → ((w : Keyword) → bytes ≡ written w → ⊥)
+      → IsWord at bytes (kind.Named (record { text = bytes; at = at }))
 
 -- the token that an item at a place is: a name or keyword has at most 64 bytes, a number is at most 9223372036854775807
 pub data IsToken : ℕ → Item → TokenKind → Type 0 where
@@ -157,11 +159,14 @@ pub data IsToken : ℕ → Item → TokenKind → Type 0 where
 -- the fault at the front of the bytes, which stand at a place
 pub data IsFault : ℕ → List ℕ → LexError → Type 0 where
   -- the byte begins no token, blank or comment
-  bad_byte : {at b : ℕ} {bytes : List ℕ} → ((piece behind : List ℕ) (item : Item) → b ∷ bytes ≡ piece ++ behind → IsItem piece item → ⊥) → (OpensText (b ∷ bytes) → ⊥) → IsFault at (b ∷ bytes) (fault.BadByte at)
+  bad_byte : {at b : ℕ} {bytes : List ℕ} → ((piece behind : List ℕ) (item : Item) → b ∷ bytes ≡ piece ++ behind → IsItem piece item → ⊥)
+      → (OpensText (b ∷ bytes) → ⊥) → IsFault at (b ∷ bytes) (fault.BadByte at)
   -- a run of letters and digits has more than 64 bytes
-  long_name : {at : ℕ} {bytes piece rest : List ℕ} → Longest bytes piece rest (Run piece) → 64 < length piece → IsFault at bytes (fault.LongName at)
+  long_name : {at : ℕ} {bytes piece rest : List ℕ} → Longest bytes piece rest (Run piece) → 64 < length piece
+      → IsFault at bytes (fault.LongName at)
   -- a number is above 9223372036854775807
-  long_number : {at n : ℕ} {bytes piece rest : List ℕ} → Longest bytes piece rest (Digits n) → 2 ^ 63 ≤ n → IsFault at bytes (fault.LongNumber at)
+  long_number : {at n : ℕ} {bytes piece rest : List ℕ} → Longest bytes piece rest (Digits n) → 2 ^ 63 ≤ n
+      → IsFault at bytes (fault.LongNumber at)
   -- `/*` has no `*/` behind it
   open_comment : {at : ℕ} {bytes : List ℕ} → OpensComment bytes → IsFault at bytes (fault.OpenComment at)
   -- LF or the end comes before the closing `"`

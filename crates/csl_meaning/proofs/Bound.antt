@@ -34,7 +34,8 @@ module _ (test : Locals → Run Val) (body : Locals → Run Went) (next : Locals
   turns_is zero = refl
   turns_is (suc n) = refl
 
-  back : (went : Went) (w : World) (k : ℕ) (f g : Locals → Run Went) → w.fuel ≤ k → ((l : Locals) (u : World) → u.fuel ≤ k → f l u ≡ g l u) → after_body went (λ inner. next inner >>= f) w ≡ after_body went (λ inner. next inner >>= g) w
+  back : (went : Went) (w : World) (k : ℕ) (f g : Locals → Run Went) → w.fuel ≤ k → ((l : Locals) (u : World) → u.fuel ≤ k → f l u ≡ g l u)
+      → after_body went (λ inner. next inner >>= f) w ≡ after_body went (λ inner. next inner >>= g) w
   back (ending.Normal, l) w k f g le h = same_after w.fuel w.steps (next l w) f g (of_next l w) (λ m u lt. h m u (omega arith))
   back (ending.Continue, l) w k f g le h = same_after w.fuel w.steps (next l w) f g (of_next l w) (λ m u lt. h m u (omega arith))
   back (ending.Break, l) w k f g le h = refl
@@ -76,7 +77,8 @@ module _ (test : Locals → Run Val) (body : Locals → Run Went) (next : Locals
   pub same_turns : (m n : ℕ) (l : Locals) (w : World) → w.fuel ≤ m → w.fuel ≤ n → turns m test body next l w ≡ turns n test body next l w
   same_turns m n l w lm ln = from_heads m n l w (λ q u lu. heads m n q u (omega arith) (omega arith))
 
-enough : (p : Program) (calls : Calls) (of_calls : OfCalls Counts counts calls) (main_only : MainOnly → Locals → Run Went) → ((statement : MainOnly) (l : Locals) → Always Counts (main_only statement l)) → BoundIsEnough p calls main_only
+enough : (p : Program) (calls : Calls) (of_calls : OfCalls Counts counts calls) (main_only : MainOnly → Locals → Run Went)
+    → ((statement : MainOnly) (l : Locals) → Always Counts (main_only statement l)) → BoundIsEnough p calls main_only
 enough p calls of_calls main_only of_main test body next n locals w le =
     same_turns (λ l. value_of p calls l test) (scoped (statements p calls main_only body)) (step_of p calls main_only next)
     (λ l. of_expr Counts counts p calls of_calls l test)

@@ -77,7 +77,8 @@ length_answers p memory fuel [] (w ∷ widths) = omega arith
 length_answers p memory fuel (block ∷ blocks) [] = omega arith
 length_answers p memory fuel (block ∷ blocks) (w ∷ widths) =
     let own : length (map (λ id. answer p memory fuel block w id) (range_with_len 0 w)) ≡ w = length-map-range_with_len (λ id. answer p memory fuel block w id) 0 w in
-    let both : length (answers p memory fuel (block ∷ blocks) (w ∷ widths)) ≡ length (map (λ id. answer p memory fuel block w id) (range_with_len 0 w)) + length (answers p memory fuel blocks widths) = length-append (map (λ id. answer p memory fuel block w id) (range_with_len 0 w)) (answers p memory fuel blocks widths) in
+    let both : length (answers p memory fuel (block ∷ blocks) (w ∷ widths)) ≡ length (map (λ id. answer p memory fuel block w id) (range_with_len 0 w)) + length
+    (answers p memory fuel blocks widths) = length-append (map (λ id. answer p memory fuel block w id) (range_with_len 0 w)) (answers p memory fuel blocks widths) in
     let together : sum (w ∷ widths) ≡ w + sum widths = sum_by-cons (λ x. x) w widths in
     let others : length (answers p memory fuel blocks widths) ≤ sum widths = length_answers p memory fuel blocks widths in
     omega arith
@@ -99,7 +100,8 @@ main_counts p fuel = record {
 
 pub run_counted : (p : Program) (fuel : ℕ) → Counted fuel 0 (run_of p fuel)
 run_counted p fuel =
-    of_statements Counts counts p (calls_to p most_levels) (of_calls_to Counts counts p most_levels) (in_main p fuel) (of_in_main Counts counts p fuel (main_counts p fuel)) p.main [] (first_world p fuel)
+    of_statements Counts counts p (calls_to p most_levels) (of_calls_to Counts counts p most_levels) (in_main p fuel) (of_in_main Counts counts p fuel (main_counts p fuel)) p.main []
+    (first_world p fuel)
 
 numbered : {A : Type 0} (o : Outcome A) (fuel steps : ℕ) → Counted fuel steps o → IsNumbered steps (main_of o)
 numbered (Gives a w) fuel steps h = tt

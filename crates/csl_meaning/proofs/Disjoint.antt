@@ -1,5 +1,6 @@
 -- A step whose routines write different words leaves all their writes.
-use Rattle.std.proofs.Common.{◌≡◌, ℕ, zero, suc, ◌<◌, ℤ, Bool, true, false, cond, ◌&&◌, ◌||◌, ◌==◌, if◌then◌else◌, nat_lt, List, [], ◌∷◌, length, map, Option, Some, None, is_some, Err, refl, ap, ◌∙◌, arith, slice_index_or}
+use Rattle.std.proofs.Common.{◌≡◌, ℕ, zero, suc, ◌<◌, ℤ, Bool, true, false, cond, ◌&&◌, ◌||◌, ◌==◌, if◌then◌else◌, nat_lt, List, [], ◌∷◌, length, map, Option, Some, None, is_some, Err, refl, ap, ◌∙◌}
+use Rattle.std.proofs.Common.{arith, slice_index_or}
 use Rattle.std.proofs.lemmas.Bool.{eqb-true, both_ways, le-ltb}
 use Rattle.std.specs.Option.{unwrap_or}
 use Rattle.std.specs.List.{enumerate_from, position}
@@ -75,7 +76,8 @@ clear_at : (es others : List (ℕ × ℤ)) → clear es others ≡ true → (a :
 clear_at es [] h a is = absurd (both_ways false refl is)
 clear_at es (e ∷ others) h a is = by_tests (has es e.0) (a == e.0) refl refl (λ g of. clear_at es others g a of) h is
   where
-    by_tests : (b c : Bool) → has es e.0 ≡ b → (a == e.0) ≡ c → (clear es others ≡ true → has others a ≡ true → has es a ≡ false) → (if b then false else clear es others) ≡ true → is_some (if c then Some e.1 else look others a) ≡ true → has es a ≡ false
+    by_tests : (b c : Bool) → has es e.0 ≡ b → (a == e.0) ≡ c → (clear es others ≡ true → has others a ≡ true → has es a ≡ false) → (if b then false else clear es others) ≡ true
+        → is_some (if c then Some e.1 else look others a) ≡ true → has es a ≡ false
     by_tests true c eb ec rest h is = absurd (both_ways false refl h)
     by_tests false true eb ec rest h is = ap (has es) (eqb-true a e.0 ec) ∙ eb
     by_tests false false eb ec rest h is = rest h is
@@ -153,12 +155,14 @@ first_entry : (lists : List (List (ℕ × ℤ))) (a : ℕ)
 unfolding least_below
 first_entry [] a = refl
 first_entry (es ∷ lists) a =
-    ap (λ (b : Bool). entry_in (answer_of (all_of (answers_by (es ∷ lists))) (if b then zero else suc (first_writer (all_of (answers_by lists)) (length (all_of (answers_by lists))) a))) a) (ap is_some (get_update es a))
+    ap (λ (b : Bool). entry_in (answer_of (all_of (answers_by (es ∷ lists))) (if b then zero else suc (first_writer (all_of (answers_by lists)) (length (all_of (answers_by lists))) a))) a)
+    (ap is_some (get_update es a))
     ∙ by_look (look es a) refl (first_entry lists a)
   where
     by_look : (o : Option ℤ) → look es a ≡ o
         → entry_in (answer_of (all_of (answers_by lists)) (first_writer (all_of (answers_by lists)) (length (all_of (answers_by lists))) a)) a ≡ look_in_all lists a
-        → entry_in (answer_of (all_of (answers_by (es ∷ lists))) (if is_some o then zero else suc (first_writer (all_of (answers_by lists)) (length (all_of (answers_by lists))) a))) a ≡ or_else o (look_in_all lists a)
+        → entry_in (answer_of (all_of (answers_by (es ∷ lists))) (if is_some o then zero else suc (first_writer (all_of (answers_by lists)) (length (all_of (answers_by lists))) a))) a ≡ or_else o
+        (look_in_all lists a)
     by_look (Some v) e rest = get_update es a ∙ e
     by_look None e rest = rest
 
@@ -171,10 +175,12 @@ unfolding merged_memory
 merged_is memory lists = λ i. map (λ place. record { kind = place.1.kind; value = value_is place.1.kind lists place.0 place.1.value i }) (enumerate_from 0 memory)
 
 -- a step whose routines write different words leaves all their writes
-pub disjoint : (memory : Memory) (lists : List (List (ℕ × ℤ))) → apart lists ≡ true → after memory (all_of (answers_by lists)) ≡ unless_outside (position is_outside (memory_by memory lists)) (memory_by memory lists)
+pub disjoint : (memory : Memory) (lists : List (List (ℕ × ℤ))) → apart lists ≡ true → after memory (all_of (answers_by lists)) ≡ unless_outside (position is_outside (memory_by memory lists))
+    (memory_by memory lists)
 unfolding after
 disjoint memory lists h =
     let all : Answers = all_of (answers_by lists) in
     let least : least_faulty (kinds_of memory) all ≡ length all = none_faulty (kinds_of memory) lists h in
-    ap (λ (b : Bool). if b then Err (fault_of (kinds_of memory) all (least_faulty (kinds_of memory) all)) else unless_outside (position is_outside (merged_memory memory all)) (merged_memory memory all)) (le-ltb (least_faulty (kinds_of memory) all) (length all) (omega arith))
+    ap (λ (b : Bool). if b then Err (fault_of (kinds_of memory) all (least_faulty (kinds_of memory) all)) else unless_outside (position is_outside (merged_memory memory all))
+    (merged_memory memory all)) (le-ltb (least_faulty (kinds_of memory) all) (length all) (omega arith))
     ∙ ap (λ m. unless_outside (position is_outside m) m) (merged_is memory lists)

@@ -17,7 +17,8 @@ use Rattle.csl_tree.specs.declared.program.Item.{Item}
 use Rattle.csl_tree.specs.declared.program.Item.TheVariants as item
 use Rattle.csl_tree.specs.declared.program.RoutineBlock.{RoutineBlock, RoutineBlock'}
 use Rattle.csl_tree.specs.declared.program.Arm.{Arm'}
-use Rattle.csl_tree.specs.declared.program.Form.{Form, Declare, Set, AddTo, If', While', For', Break, Continue, Return, CallOf, Assert, Block', Print, Par', Row_of-Arm, end_of-Arm, more_of-Arm, Row_of-Stmt, end_of-Stmt, more_of-Stmt, Held-Form-If-1}
+use Rattle.csl_tree.specs.declared.program.Form.{Form, Declare, Set, AddTo, If', While', For', Break, Continue, Return, CallOf, Assert, Block', Print, Par', Row_of-Arm, end_of-Arm, more_of-Arm}
+use Rattle.csl_tree.specs.declared.program.Form.{Row_of-Stmt, end_of-Stmt, more_of-Stmt, Held-Form-If-1}
 use Rattle.csl_tree.specs.declared.program.Form as form
 use Rattle.csl_meaning.specs.declared.state.Area.{Area}
 use Rattle.csl_meaning.specs.declared.state.Ending.TheVariants as ending
@@ -27,7 +28,8 @@ use Rattle.csl_meaning.specs.Locals.{Locals, local_value}
 use Rattle.csl_meaning.specs.Operators.{number_in, truth_in, unary, binary, decided}
 use Rattle.csl_meaning.specs.Runs.{Outcome, Run, ◌>>=◌, ◌>>◌, pure, stop, try, take_unit, word_at, put_word, raise_word}
 use Rattle.csl_meaning.specs.Value.{Calls, value, read, result, boxed, values, value_of, item_at, in_range, declared, read_as_int, read_name, unless}
-use Rattle.csl_meaning.specs.Effect.{Went, MainOnly, Printing, Stepping, go_on, after_body, scoped, locals_after, turn, turns, loop, assert, set_name, add_to_name, set, add_to, returned, blocks_in, effect, in_order, choose, otherwise, statements, step_of, nowhere, function_named, run_function, calls_to, most_levels}
+use Rattle.csl_meaning.specs.Effect.{Went, MainOnly, Printing, Stepping, go_on, after_body, scoped, locals_after, turn, turns, loop, assert, set_name, add_to_name, set, add_to, returned, blocks_in}
+use Rattle.csl_meaning.specs.Effect.{effect, in_order, choose, otherwise, statements, step_of, nowhere, function_named, run_function, calls_to, most_levels}
 use Rattle.csl_meaning.specs.Meaning.{show, pieces, widths_of, good_widths, open_step, in_main}
 use Rattle.cal_base.specs.Printing.{line_of}
 use Rattle.cal_base.specs.Widths.{most_routines, naturals, unless_too_many}

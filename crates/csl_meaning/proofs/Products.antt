@@ -1,5 +1,6 @@
 -- The product of two matrices.
-use Rattle.std.proofs.Common.{◌≡◌, refl, ℕ, zero, suc, ◌+◌, ◌*◌, ◌/◌, ◌%◌, ◌^◌, ◌<◌, ◌≤◌, nat_lt, nat_eq, Bool, true, false, if◌then◌else◌, ℤ, pos, ap, ◌∙◌, sym, arith, Option, Some, List, [], ◌∷◌, ◌++◌, map, Ok}
+use Rattle.std.proofs.Common.{◌≡◌, refl, ℕ, zero, suc, ◌+◌, ◌*◌, ◌/◌, ◌%◌, ◌^◌, ◌<◌, ◌≤◌, nat_lt, nat_eq, Bool, true, false, if◌then◌else◌, ℤ, pos, ap, ◌∙◌, sym, arith, Option, Some, List, [], ◌∷◌}
+use Rattle.std.proofs.Common.{◌++◌, map, Ok}
 use Rattle.std.specs.Prelude.{codes}
 use Rattle.std.proofs.lemmas.Bool.{lt-ltb}
 use Rattle.std.specs.Fmt.{digits}
@@ -9,7 +10,8 @@ use Rattle.std.specs.Ordering.{nat_cmp}
 use Rattle.csl_tree.specs.declared.program.Node.TheBlock.{shape-the_row-Expr-0, hidden-the_row-Expr-0, shape-the_row-Expr-1, hidden-the_row-Expr-1}
 use Rattle.csl_tree.specs.declared.program.Place.{roll-Place}
 use Rattle.csl_tree.specs.declared.program.Call.{roll-Call}
-use Rattle.csl_tree.specs.declared.program.Form.TheBlock.{shape-the_row-Stmt-1, hidden-the_row-Stmt-1, shape-the_row-Stmt-2, hidden-the_row-Stmt-2, shape-the_row-RoutineBlock-3, hidden-the_row-RoutineBlock-3, shape-the_row-Arm-0, hidden-the_row-Arm-0}
+use Rattle.csl_tree.specs.declared.program.Form.TheBlock.{shape-the_row-Stmt-1, hidden-the_row-Stmt-1, shape-the_row-Stmt-2, hidden-the_row-Stmt-2, shape-the_row-RoutineBlock-3}
+use Rattle.csl_tree.specs.declared.program.Form.TheBlock.{hidden-the_row-RoutineBlock-3, shape-the_row-Arm-0, hidden-the_row-Arm-0}
 use Rattle.csl_tree.specs.declared.program.RoutineBlock.{roll-RoutineBlock}
 use Rattle.csl_tree.specs.declared.program.Arm.{roll-Arm}
 use denote.Hole.Carrier.{hidden, roll}
@@ -51,7 +53,8 @@ inside r q v k =
 
 module _ (calls : Calls) where
   abbrev one_turn : (Locals → Run Went) → Locals → Run Went
-  one_turn = turn (λ l. value_of rows.products calls l rows.below_eight) (scoped (statements rows.products calls nowhere (rows.add_product ∷ []))) (step_of rows.products calls nowhere (Some rows.next_k))
+  one_turn = turn (λ l. value_of rows.products calls l rows.below_eight) (scoped (statements rows.products calls nowhere (rows.add_product ∷ [])))
+      (step_of rows.products calls nowhere (Some rows.next_k))
 
   turned : (again : Locals → Run Went) (r q v k x y : ℕ) (w : World)
       → nat_lt k 8 ≡ true → nat_lt (r * 8) (2 ^ 63) ≡ true → nat_lt (r * 8 + k) (2 ^ 63) ≡ true → nat_lt (r * 8 + k) 64 ≡ true → read_word w.store (0 + (r * 8 + k)) ≡ pos x
@@ -127,12 +130,15 @@ module _ (s : Store) (steps : ℕ) (reads_a : (i : ℕ) → i < 64 → read_word
   -- the loop of `cell`, and what follows it
   abbrev behind : Outcome Went → Outcome (Option Val)
   behind looped =
-      and_then (and_then (and_then looped (λ went. pure (leave 3 went))) (λ went. go_on went (statements rows.products (calls_to rows.products 63) nowhere (rows.return_v ∷ [])))) (λ went. pure (given_back went.0))
+      and_then (and_then (and_then looped (λ went. pure (leave 3 went))) (λ went. go_on went (statements rows.products (calls_to rows.products 63) nowhere (rows.return_v ∷ []))))
+      (λ went. pure (given_back went.0))
 
   called : (f : ℕ) → calls_to rows.products 64 (codes "cell") (Int (pos r) ∷ Int (pos q) ∷ []) (at (eight (suc f))) ≡ Gives (Some (Int (pos (total r q 8)))) (at (suc f))
-  unfolding shape-the_row-Expr-0 hidden-the_row-Expr-0 shape-the_row-Expr-1 hidden-the_row-Expr-1 shape-the_row-Stmt-1 hidden-the_row-Stmt-1 shape-the_row-Stmt-2 hidden-the_row-Stmt-2 shape-the_row-RoutineBlock-3 hidden-the_row-RoutineBlock-3 shape-the_row-Arm-0 hidden-the_row-Arm-0 roll-Place roll-Call roll-RoutineBlock roll-Arm hidden roll calls_to
+  unfolding shape-the_row-Expr-0 hidden-the_row-Expr-0 shape-the_row-Expr-1 hidden-the_row-Expr-1 shape-the_row-Stmt-1 hidden-the_row-Stmt-1 shape-the_row-Stmt-2 hidden-the_row-Stmt-2
+      shape-the_row-RoutineBlock-3 hidden-the_row-RoutineBlock-3 shape-the_row-Arm-0 hidden-the_row-Arm-0 roll-Place roll-Call roll-RoutineBlock roll-Arm hidden roll calls_to
   called f =
-      ap behind (all_turns (calls_to rows.products 63) (λ n. turns n (λ l. value_of rows.products (calls_to rows.products 63) l rows.below_eight) (scoped (statements rows.products (calls_to rows.products 63) nowhere (rows.add_product ∷ []))) (step_of rows.products (calls_to rows.products 63) nowhere (Some rows.next_k))) (λ n. refl) f)
+      ap behind (all_turns (calls_to rows.products 63) (λ n. turns n (λ l. value_of rows.products (calls_to rows.products 63) l rows.below_eight)
+      (scoped (statements rows.products (calls_to rows.products 63) nowhere (rows.add_product ∷ []))) (step_of rows.products (calls_to rows.products 63) nowhere (Some rows.next_k))) (λ n. refl) f)
 
 -- nothing written
 abbrev nothing : Written
@@ -151,9 +157,11 @@ module _ (m : Memory) (holds_a : (i : ℕ) → i < 64 → value_at m (0 + i) ≡
   reading a z is = ap (λ o. unwrap_or o (value_at m a)) (get-empty nat_cmp a) ∙ is
 
   multiplies : (f id : ℕ) → id < 64 → answer rows.products m (suc (eight (suc f))) rows.multiplying 64 id ≡ Update (update_of (multiplied id))
-  unfolding shape-the_row-Expr-0 hidden-the_row-Expr-0 shape-the_row-Expr-1 hidden-the_row-Expr-1 shape-the_row-Stmt-1 hidden-the_row-Stmt-1 shape-the_row-Stmt-2 hidden-the_row-Stmt-2 shape-the_row-RoutineBlock-3 hidden-the_row-RoutineBlock-3 shape-the_row-Arm-0 hidden-the_row-Arm-0 roll-Place roll-Call roll-RoutineBlock roll-Arm hidden roll
+  unfolding shape-the_row-Expr-0 hidden-the_row-Expr-0 shape-the_row-Expr-1 hidden-the_row-Expr-1 shape-the_row-Stmt-1 hidden-the_row-Stmt-1 shape-the_row-Stmt-2 hidden-the_row-Stmt-2
+      shape-the_row-RoutineBlock-3 hidden-the_row-RoutineBlock-3 shape-the_row-Arm-0 hidden-the_row-Arm-0 roll-Place roll-Call roll-RoutineBlock roll-Arm hidden roll
   multiplies f id lt =
-      let calling : calls_to rows.products 64 (codes "cell") (Int (pos (id / 8)) ∷ Int (pos (id % 8)) ∷ []) (record { store = Routine m nothing; fuel = eight (suc f); steps = 0 }) ≡ Gives (Some (Int (pos (total (id / 8) (id % 8) 8)))) (record { store = Routine m nothing; fuel = suc f; steps = 0 }) =
+      let calling : calls_to rows.products 64 (codes "cell") (Int (pos (id / 8)) ∷ Int (pos (id % 8)) ∷ []) (record { store = Routine m nothing; fuel = eight (suc f); steps = 0 }) ≡ Gives
+      (Some (Int (pos (total (id / 8) (id % 8) 8)))) (record { store = Routine m nothing; fuel = suc f; steps = 0 }) =
       called (Routine m nothing) 0 (λ i l. reading (0 + i) (pos (in_a i)) (holds_a i l)) (λ j l. reading (64 + j) (pos (in_b j)) (holds_b j l)) (id / 8) (id % 8) (omega arith) (omega arith) f in
       let row : nat_lt (id / 8) (2 ^ 63) ≡ true = lt-ltb _ _ (omega arith) in
       let within : nat_lt id 64 ≡ true = lt-ltb _ _ lt in
@@ -199,33 +207,41 @@ abbrev doubled : Memory
 doubled = words_by in_a 0 64 ++ words_by in_b 0 64 ++ words_by (λ id. total (id / 8) (id % 8) 8) 0 64
 
 fuel_for_products_fills : (first_step (main rows.products 66)).answers ≡ answers_by (by_number sums 0 64)
-unfolding shape-the_row-Expr-0 hidden-the_row-Expr-0 shape-the_row-Expr-1 hidden-the_row-Expr-1 shape-the_row-Stmt-1 hidden-the_row-Stmt-1 shape-the_row-Stmt-2 hidden-the_row-Stmt-2 shape-the_row-RoutineBlock-3 hidden-the_row-RoutineBlock-3 shape-the_row-Arm-0 hidden-the_row-Arm-0 roll-Place roll-Call roll-RoutineBlock roll-Arm hidden roll digits calls_to
+unfolding shape-the_row-Expr-0 hidden-the_row-Expr-0 shape-the_row-Expr-1 hidden-the_row-Expr-1 shape-the_row-Stmt-1 hidden-the_row-Stmt-1 shape-the_row-Stmt-2 hidden-the_row-Stmt-2
+    shape-the_row-RoutineBlock-3 hidden-the_row-RoutineBlock-3 shape-the_row-Arm-0 hidden-the_row-Arm-0 roll-Place roll-Call roll-RoutineBlock roll-Arm hidden roll digits calls_to
 fuel_for_products_fills = refl
 
 fuel_for_products_filled : meant (first_step (main rows.products 66)) ≡ Ok filled
-unfolding shape-the_row-Expr-0 hidden-the_row-Expr-0 shape-the_row-Expr-1 hidden-the_row-Expr-1 shape-the_row-Stmt-1 hidden-the_row-Stmt-1 shape-the_row-Stmt-2 hidden-the_row-Stmt-2 shape-the_row-RoutineBlock-3 hidden-the_row-RoutineBlock-3 shape-the_row-Arm-0 hidden-the_row-Arm-0 roll-Place roll-Call roll-RoutineBlock roll-Arm hidden roll digits calls_to
+unfolding shape-the_row-Expr-0 hidden-the_row-Expr-0 shape-the_row-Expr-1 hidden-the_row-Expr-1 shape-the_row-Stmt-1 hidden-the_row-Stmt-1 shape-the_row-Stmt-2 hidden-the_row-Stmt-2
+    shape-the_row-RoutineBlock-3 hidden-the_row-RoutineBlock-3 shape-the_row-Arm-0 hidden-the_row-Arm-0 roll-Place roll-Call roll-RoutineBlock roll-Arm hidden roll digits calls_to
 fuel_for_products_filled = ap (λ all. after (zeros ++ zeros ++ zeros) (all_of all)) fuel_for_products_fills ∙ disjoint (zeros ++ zeros ++ zeros) (by_number sums 0 64) refl
 
 fuel_for_products_multiplied : meant (first_step (after_first filled (main rows.products 66))) ≡ Ok doubled
-unfolding shape-the_row-Expr-0 hidden-the_row-Expr-0 shape-the_row-Expr-1 hidden-the_row-Expr-1 shape-the_row-Stmt-1 hidden-the_row-Stmt-1 shape-the_row-Stmt-2 hidden-the_row-Stmt-2 shape-the_row-RoutineBlock-3 hidden-the_row-RoutineBlock-3 shape-the_row-Arm-0 hidden-the_row-Arm-0 roll-Place roll-Call roll-RoutineBlock roll-Arm hidden roll digits calls_to
+unfolding shape-the_row-Expr-0 hidden-the_row-Expr-0 shape-the_row-Expr-1 hidden-the_row-Expr-1 shape-the_row-Stmt-1 hidden-the_row-Stmt-1 shape-the_row-Stmt-2 hidden-the_row-Stmt-2
+    shape-the_row-RoutineBlock-3 hidden-the_row-RoutineBlock-3 shape-the_row-Arm-0 hidden-the_row-Arm-0 roll-Place roll-Call roll-RoutineBlock roll-Arm hidden roll digits calls_to
 fuel_for_products_multiplied = ap (λ all. after filled (all_of (all ++ []))) (all_multiply filled holds_a holds_b 56 64 0 (omega arith)) ∙ disjoint filled (by_number multiplied 0 64) refl
 
 pub fuel_for_products : rows.FuelForProducts
-unfolding shape-the_row-Expr-0 hidden-the_row-Expr-0 shape-the_row-Expr-1 hidden-the_row-Expr-1 shape-the_row-Stmt-1 hidden-the_row-Stmt-1 shape-the_row-Stmt-2 hidden-the_row-Stmt-2 shape-the_row-RoutineBlock-3 hidden-the_row-RoutineBlock-3 shape-the_row-Arm-0 hidden-the_row-Arm-0 roll-Place roll-Call roll-RoutineBlock roll-Arm hidden roll digits calls_to
+unfolding shape-the_row-Expr-0 hidden-the_row-Expr-0 shape-the_row-Expr-1 hidden-the_row-Expr-1 shape-the_row-Stmt-1 hidden-the_row-Stmt-1 shape-the_row-Stmt-2 hidden-the_row-Stmt-2
+    shape-the_row-RoutineBlock-3 hidden-the_row-RoutineBlock-3 shape-the_row-Arm-0 hidden-the_row-Arm-0 roll-Place roll-Call roll-RoutineBlock roll-Arm hidden roll digits calls_to
 fuel_for_products = ap (written false) (steps_leave (main rows.products 66) _ _ fuel_for_products_filled fuel_for_products_multiplied)
 
 no_fuel_for_products_fills : (first_step (main rows.products 65)).answers ≡ answers_by (by_number sums 0 64)
-unfolding shape-the_row-Expr-0 hidden-the_row-Expr-0 shape-the_row-Expr-1 hidden-the_row-Expr-1 shape-the_row-Stmt-1 hidden-the_row-Stmt-1 shape-the_row-Stmt-2 hidden-the_row-Stmt-2 shape-the_row-RoutineBlock-3 hidden-the_row-RoutineBlock-3 shape-the_row-Arm-0 hidden-the_row-Arm-0 roll-Place roll-Call roll-RoutineBlock roll-Arm hidden roll digits calls_to
+unfolding shape-the_row-Expr-0 hidden-the_row-Expr-0 shape-the_row-Expr-1 hidden-the_row-Expr-1 shape-the_row-Stmt-1 hidden-the_row-Stmt-1 shape-the_row-Stmt-2 hidden-the_row-Stmt-2
+    shape-the_row-RoutineBlock-3 hidden-the_row-RoutineBlock-3 shape-the_row-Arm-0 hidden-the_row-Arm-0 roll-Place roll-Call roll-RoutineBlock roll-Arm hidden roll digits calls_to
 no_fuel_for_products_fills = refl
 
 no_fuel_for_products_filled : meant (first_step (main rows.products 65)) ≡ Ok filled
-unfolding shape-the_row-Expr-0 hidden-the_row-Expr-0 shape-the_row-Expr-1 hidden-the_row-Expr-1 shape-the_row-Stmt-1 hidden-the_row-Stmt-1 shape-the_row-Stmt-2 hidden-the_row-Stmt-2 shape-the_row-RoutineBlock-3 hidden-the_row-RoutineBlock-3 shape-the_row-Arm-0 hidden-the_row-Arm-0 roll-Place roll-Call roll-RoutineBlock roll-Arm hidden roll digits calls_to
+unfolding shape-the_row-Expr-0 hidden-the_row-Expr-0 shape-the_row-Expr-1 hidden-the_row-Expr-1 shape-the_row-Stmt-1 hidden-the_row-Stmt-1 shape-the_row-Stmt-2 hidden-the_row-Stmt-2
+    shape-the_row-RoutineBlock-3 hidden-the_row-RoutineBlock-3 shape-the_row-Arm-0 hidden-the_row-Arm-0 roll-Place roll-Call roll-RoutineBlock roll-Arm hidden roll digits calls_to
 no_fuel_for_products_filled = ap (λ all. after (zeros ++ zeros ++ zeros) (all_of all)) no_fuel_for_products_fills ∙ disjoint (zeros ++ zeros ++ zeros) (by_number sums 0 64) refl
 
 no_fuel_for_products_multiplied : meant (first_step (after_first filled (main rows.products 65))) ≡ Ok doubled
-unfolding shape-the_row-Expr-0 hidden-the_row-Expr-0 shape-the_row-Expr-1 hidden-the_row-Expr-1 shape-the_row-Stmt-1 hidden-the_row-Stmt-1 shape-the_row-Stmt-2 hidden-the_row-Stmt-2 shape-the_row-RoutineBlock-3 hidden-the_row-RoutineBlock-3 shape-the_row-Arm-0 hidden-the_row-Arm-0 roll-Place roll-Call roll-RoutineBlock roll-Arm hidden roll digits calls_to
+unfolding shape-the_row-Expr-0 hidden-the_row-Expr-0 shape-the_row-Expr-1 hidden-the_row-Expr-1 shape-the_row-Stmt-1 hidden-the_row-Stmt-1 shape-the_row-Stmt-2 hidden-the_row-Stmt-2
+    shape-the_row-RoutineBlock-3 hidden-the_row-RoutineBlock-3 shape-the_row-Arm-0 hidden-the_row-Arm-0 roll-Place roll-Call roll-RoutineBlock roll-Arm hidden roll digits calls_to
 no_fuel_for_products_multiplied = ap (λ all. after filled (all_of (all ++ []))) (all_multiply filled holds_a holds_b 55 64 0 (omega arith)) ∙ disjoint filled (by_number multiplied 0 64) refl
 
 pub no_fuel_for_products : rows.NoFuelForProducts
-unfolding shape-the_row-Expr-0 hidden-the_row-Expr-0 shape-the_row-Expr-1 hidden-the_row-Expr-1 shape-the_row-Stmt-1 hidden-the_row-Stmt-1 shape-the_row-Stmt-2 hidden-the_row-Stmt-2 shape-the_row-RoutineBlock-3 hidden-the_row-RoutineBlock-3 shape-the_row-Arm-0 hidden-the_row-Arm-0 roll-Place roll-Call roll-RoutineBlock roll-Arm hidden roll digits calls_to
+unfolding shape-the_row-Expr-0 hidden-the_row-Expr-0 shape-the_row-Expr-1 hidden-the_row-Expr-1 shape-the_row-Stmt-1 hidden-the_row-Stmt-1 shape-the_row-Stmt-2 hidden-the_row-Stmt-2
+    shape-the_row-RoutineBlock-3 hidden-the_row-RoutineBlock-3 shape-the_row-Arm-0 hidden-the_row-Arm-0 roll-Place roll-Call roll-RoutineBlock roll-Arm hidden roll digits calls_to
 no_fuel_for_products = ap (written false) (steps_leave (main rows.products 65) _ _ no_fuel_for_products_filled no_fuel_for_products_multiplied)

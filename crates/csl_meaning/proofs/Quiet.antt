@@ -50,5 +50,6 @@ quiets = record {
 
 pub routines_are_quiet : RoutinesAreQuiet
 routines_are_quiet p memory fuel (RoutineBlock' at width width_name id_name shape body) w id =
-    of_in_order Quiets quiets p (calls_to p most_levels) (of_calls_to Quiets quiets p most_levels) nowhere (of_nowhere Quiets quiets p (calls_to p most_levels) (of_calls_to Quiets quiets p most_levels))
+    of_in_order Quiets quiets p (calls_to p most_levels) (of_calls_to Quiets quiets p most_levels) nowhere
+    (of_nowhere Quiets quiets p (calls_to p most_levels) (of_calls_to Quiets quiets p most_levels))
     body (bound (width_name.text ∷ id_name.text ∷ []) (Int (pos w) ∷ Int (pos id) ∷ [])) (opening_world memory fuel) memory refl

@@ -31,7 +31,8 @@ step_leaves (Shows line main) left is = ap (showing (Line line)) (step_leaves ma
 step_leaves (Opens job next) left is = ap (λ r. going_on job r (λ later. meaning_of (next later))) is
 
 -- the first two steps leave these
-pub steps_leave : (main : Main) (first : Memory) (second : Result Memory StepFault) → meant (first_step main) ≡ Ok first → meant (first_step (after_first first main)) ≡ second → meaning_of main ≡ meaning_with (Ok first ∷ second ∷ []) main
+pub steps_leave : (main : Main) (first : Memory) (second : Result Memory StepFault) → meant (first_step main) ≡ Ok first → meant (first_step (after_first first main)) ≡ second
+    → meaning_of main ≡ meaning_with (Ok first ∷ second ∷ []) main
 steps_leave (Ends ending) first second is next_is = refl
 steps_leave (Shows line main) first second is next_is = ap (showing (Line line)) (steps_leave main first second is next_is)
 steps_leave (Opens job next) first second is next_is =

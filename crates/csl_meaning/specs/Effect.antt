@@ -12,7 +12,10 @@ use Rattle.csl_tree.specs.declared.program.Item.{Item}
 use Rattle.csl_tree.specs.declared.program.Stmt.{Stmt}
 use Rattle.csl_tree.specs.declared.program.Arm.{Arm'}
 use Rattle.csl_tree.specs.declared.program.RoutineBlock.{RoutineBlock}
-use Rattle.csl_tree.specs.declared.program.Form.{Form, Declare, Set, AddTo, If', While', For', Break, Continue, Return, CallOf, Assert, Block', Print, Par', Row_of-Arm, end_of-Arm, more_of-Arm, Row_of-Stmt, end_of-Stmt, more_of-Stmt, Held-Form-If-1, Row_of-RoutineBlock, end_of-RoutineBlock, more_of-RoutineBlock}
+use Rattle.csl_tree.specs.declared.program.Form.{Form, Declare, Set, AddTo, If', While', For', Break, Continue, Return, CallOf, Assert}
+use Rattle.csl_tree.specs.declared.program.Form.{Block', Print, Par', Row_of-Arm, end_of-Arm, more_of-Arm, Row_of-Stmt, end_of-Stmt}
+use Rattle.csl_tree.specs.declared.program.Form.{more_of-Stmt, Held-Form-If-1, Row_of-RoutineBlock, end_of-RoutineBlock}
+use Rattle.csl_tree.specs.declared.program.Form.{more_of-RoutineBlock}
 use Rattle.csl_tree.specs.declared.program.Form as form
 use Rattle.csl_meaning.specs.declared.state.Area.{Area}
 use Rattle.csl_meaning.specs.declared.state.Ending.{Ending}

@@ -24,7 +24,8 @@ opening_world memory fuel = record { store = Routine memory empty; fuel = fuel; 
 -- how a routine's run goes: its block's body with the block's width and its number within the block
 abbrev pub routine_run : Program → Memory → ℕ → RoutineBlock → ℕ → ℕ → Outcome Went
 routine_run p memory fuel (RoutineBlock' at width width_name id_name shape body) w id =
-    in_order p (calls_to p most_levels) nowhere body (bound (width_name.text ∷ id_name.text ∷ []) (Int (pos w) ∷ Int (pos id) ∷ [])) (opening_world memory fuel)
+    in_order p (calls_to p most_levels) nowhere body (bound (width_name.text ∷ id_name.text ∷ []) (Int (pos w) ∷ Int (pos id) ∷ []))
+    (opening_world memory fuel)
 
 -- how a routine ended; it shows no line and opens no step
 abbrev pub end_of : Outcome Went → RoutineEnd

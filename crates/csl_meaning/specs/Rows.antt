@@ -201,7 +201,8 @@ SwappedPair = Writes swapped 1000000 (line (codes "2 1")) []
 -- shared { int x; } main { for (int i = 0; i < 2; i += 1) { parbegin routine[1](int w, int id) { x = x + 1; } parend; } print(x); }
 abbrev pub raised_twice : Program
 raised_twice = main_alone (scalar (codes "x") ∷ [])
-    (count_to (codes "i") 2 (parallel (routine (number 1) (set (at_name (codes "x")) (two (var (codes "x")) Add (number 1)) ∷ []) ∷ []) ∷ [])
+    (count_to (codes "i") 2 (parallel (routine (number 1) (set (at_name (codes "x")) (two (var (codes "x")) Add (number 1)) ∷ []) ∷ [])
+    ∷ [])
     ∷ print (item.Value (var (codes "x")) ∷ [])
     ∷ [])
 
@@ -268,7 +269,8 @@ LeastPairInConflict = Writes three_write 1000000 [] (line (codes "fault: step 1,
 -- shared { int a[6]; } main { parbegin routine[2](int w, int id) { a[5] = 1; assert(id == 1); } parend; }
 abbrev pub fails_after_write : Program
 fails_after_write = main_alone (array (codes "a") 6 ∷ [])
-    (parallel (routine (number 2) (set (at_item (codes "a") (number 5)) (number 1) ∷ s (form.Assert (two id Eq (number 1))) ∷ []) ∷ []) ∷ [])
+    (parallel (routine (number 2) (set (at_item (codes "a") (number 5)) (number 1) ∷ s (form.Assert (two id Eq (number 1))) ∷ []) ∷ [])
+    ∷ [])
 
 -- a routine that fails has written nothing, so that the other has no conflict
 abbrev pub TrappedWritesNothing : Type 0
@@ -303,7 +305,8 @@ SumOfTallies = Writes tallied 1000000 (line (codes "28")) []
 abbrev pub total_too_large : Program
 total_too_large = main_alone (tally (codes "t") ∷ [])
     (parallel (routine (number 2)
-    (when (two id Eq (number 0)) (add_to (at_name (codes "t")) (number 9223372036854775807) ∷ []) (Some (add_to (at_name (codes "t")) (number 1) ∷ []))
+    (when (two id Eq (number 0)) (add_to (at_name (codes "t")) (number 9223372036854775807) ∷ [])
+    (Some (add_to (at_name (codes "t")) (number 1) ∷ []))
     ∷ []) ∷ [])
     ∷ [])
 
@@ -427,7 +430,8 @@ CallsNestTooDeep = Writes (descending 64) 1000000 [] (line (codes "fault: after 
 
 -- shared { int a[2]; int z; } main { a[2] = 1 / z; }
 abbrev pub value_first : Program
-value_first = main_alone (array (codes "a") 2 ∷ scalar (codes "z") ∷ []) (set (at_item (codes "a") (number 2)) (two (number 1) Div (var (codes "z"))) ∷ [])
+value_first = main_alone (array (codes "a") 2 ∷ scalar (codes "z") ∷ [])
+    (set (at_item (codes "a") (number 2)) (two (number 1) Div (var (codes "z"))) ∷ [])
 
 -- the value is evaluated before the index is tested
 abbrev pub ValueBeforeRange : Type 0
@@ -549,7 +553,8 @@ products = record {
       ∷ parallel (multiplying ∷ [])
       ∷ declare (codes "s") (number 0)
       ∷ count_to (codes "i") 64 (add_to (at_name (codes "s")) (read (at_item (codes "c") (var (codes "i")))) ∷ [])
-      ∷ print (item.Text (named (codes "sum")) ∷ item.Value (var (codes "s")) ∷ item.Text (named (codes "last")) ∷ item.Value (read (at_item (codes "c") (number 63))) ∷ [])
+      ∷ print (item.Text (named (codes "sum")) ∷ item.Value (var (codes "s")) ∷ item.Text (named (codes "last")) ∷ item.Value
+      (read (at_item (codes "c") (number 63))) ∷ [])
       ∷ [];
 }
 

@@ -18,11 +18,14 @@ use Rattle.expression_parser.specs.declared.ParseError.{ParseError}
 use Rattle.csl_grammar.specs.Stops.{IsEnded, BeginsOtherThan}
 use Rattle.csl_grammar.specs.Programs.{Each, MoreOf, ListOf, nothing, SpellsValue, plain, minus, SpellsInitial, unlisted, listed, SpellsShared, scalar, array, tally}
 use Rattle.csl_grammar.proofs.UniqueParts.{unique_value, unique_values, no_value_closes}
-use Rattle.expression_parser.specs.Reading.{Found, Refused, Fails, Answers, IsToken, Tok, tok, NameTok, name_tok, SizeTok, size_tok, Ret, ret, Then, seq, Either, this, that, ListUntil, MoreUntil, behind, number_of, natural_of, if_natural, stops_anywhere}
+use Rattle.expression_parser.specs.Reading.{Found, Refused, Fails, Answers, IsToken, Tok, tok, NameTok, name_tok, SizeTok, size_tok, Ret, ret, Then, seq, Either, this, that, ListUntil, MoreUntil}
+use Rattle.expression_parser.specs.Reading.{behind, number_of, natural_of, if_natural, stops_anywhere}
 use Rattle.csl_parser.specs.Chains.{scalar_of, tally_of, array_of, TallyRest, IntRest, AfterName, ArrayRest, AfterSize, ListedRest}
 use Rattle.expression_parser.proofs.Sequence.{Passes, Same, passes_same, passes_behind, passes_through, passed, passed_error, refused_here}
 use Rattle.expression_parser.proofs.Single.{some_token, ended_behind, token_found}
-use Rattle.expression_parser.proofs.Then.{Completes, Follows, completes_ret, completes_tok, completes_name, completes_size, completes_then, completes_this, completes_list, tok_follows, name_follows, size_follows, then_passes, tok_found, passes_this, passes_that, begins_other, no_name, list_nothing, list_err, list_begun, more_err, more_step, last_err, last_ok}
+use Rattle.expression_parser.proofs.Then.{Completes, Follows, completes_ret, completes_tok, completes_name, completes_size, completes_then, completes_this, completes_list, tok_follows, name_follows}
+use Rattle.expression_parser.proofs.Then.{size_follows, then_passes, tok_found, passes_this, passes_that, begins_other, no_name, list_nothing, list_err, list_begun, more_err, more_step, last_err}
+use Rattle.expression_parser.proofs.Then.{last_ok}
 
 -- ---- what completes a declaration
 
@@ -50,7 +53,8 @@ pub int_name : Follows NameTok stops_anywhere AfterName stops_anywhere
 int_name = name_follows stops_anywhere after_name
 
 pub bracket_follows : (name : Name) → Follows (Tok (kind.Mark mark.OpenBracket)) stops_anywhere (λ opening. ArrayRest name) stops_anywhere
-bracket_follows name = tok_follows (kind.Mark mark.OpenBracket) stops_anywhere (λ opening. completes_then completes_size (λ size. completes_then (completes_tok (kind.Mark mark.CloseBracket)) (λ closing. after_size name size)))
+bracket_follows name = tok_follows (kind.Mark mark.OpenBracket) stops_anywhere (λ opening. completes_then completes_size
+    (λ size. completes_then (completes_tok (kind.Mark mark.CloseBracket)) (λ closing. after_size name size)))
 
 pub array_size : (name : Name) → Follows SizeTok stops_anywhere (λ size. Then (Tok (kind.Mark mark.CloseBracket)) (λ closing. AfterSize name size)) stops_anywhere
 array_size name = size_follows stops_anywhere (λ size. completes_then (completes_tok (kind.Mark mark.CloseBracket)) (λ closing. after_size name size))
@@ -60,36 +64,50 @@ array_closing name size = tok_follows (kind.Mark mark.CloseBracket) stops_anywhe
 
 -- ---- behind a name, and behind a size
 
-pub bracket_next : (name : Name) (tokens : List Token) (first : Token) (rest : List Token) → IsEnded tokens → tokens ≡ first ∷ rest → first.kind ≡ kind.Mark mark.OpenBracket → Passes (ArrayRest name) (AfterName name) stops_anywhere rest tokens
+pub bracket_next : (name : Name) (tokens : List Token) (first : Token) (rest : List Token) → IsEnded tokens → tokens ≡ first ∷ rest → first.kind ≡ kind.Mark mark.OpenBracket
+    → Passes (ArrayRest name) (AfterName name) stops_anywhere rest tokens
 bracket_next name tokens first rest ended split same =
     passes_through (then_passes (bracket_follows name) tokens rest first (tok_found (token_found (kind.Mark mark.OpenBracket) tokens first rest ended split same (λ h. cc))))
-    (passes_that (kind.Mark mark.Semicolon) (λ end. Ret (scalar_of name)) (Then (Tok (kind.Mark mark.OpenBracket)) (λ opening. ArrayRest name)) stops_anywhere tokens (begins_other (kind.Mark mark.Semicolon) tokens first rest split (λ h. cc)))
+    (passes_that (kind.Mark mark.Semicolon) (λ end. Ret (scalar_of name)) (Then (Tok (kind.Mark mark.OpenBracket)) (λ opening. ArrayRest name)) stops_anywhere tokens
+    (begins_other (kind.Mark mark.Semicolon) tokens first rest split (λ h. cc)))
 
-pub scalar_next : (name : Name) (tokens : List Token) (first : Token) (rest : List Token) → tokens ≡ first ∷ rest → (first.kind ≡ kind.Mark mark.OpenBracket → ⊥) → Passes (Then (Tok (kind.Mark mark.Semicolon)) (λ end. Ret (scalar_of name))) (AfterName name) stops_anywhere tokens tokens
+pub scalar_next : (name : Name) (tokens : List Token) (first : Token) (rest : List Token) → tokens ≡ first ∷ rest → (first.kind ≡ kind.Mark mark.OpenBracket → ⊥)
+    → Passes (Then (Tok (kind.Mark mark.Semicolon)) (λ end. Ret (scalar_of name))) (AfterName name) stops_anywhere tokens tokens
 scalar_next name tokens first rest split other =
-    passes_this (Then (Tok (kind.Mark mark.Semicolon)) (λ end. Ret (scalar_of name))) (kind.Mark mark.OpenBracket) (λ opening. ArrayRest name) stops_anywhere tokens (begins_other (kind.Mark mark.OpenBracket) tokens first rest split other)
+    passes_this (Then (Tok (kind.Mark mark.Semicolon)) (λ end. Ret (scalar_of name))) (kind.Mark mark.OpenBracket) (λ opening. ArrayRest name) stops_anywhere tokens
+    (begins_other (kind.Mark mark.OpenBracket) tokens first rest split other)
 
 listed_completes : (name : Name) (size : ArraySize) → Completes (ListedRest name size)
 listed_completes name size =
-    completes_then (completes_tok (kind.Mark mark.OpenBrace)) (λ opening. completes_then (completes_list (kind.Mark mark.CloseBrace) SpellsValue stops_anywhere) (λ values. ends_so (array_of name size true values)))
+    completes_then (completes_tok (kind.Mark mark.OpenBrace)) (λ opening. completes_then (completes_list (kind.Mark mark.CloseBrace) SpellsValue stops_anywhere)
+    (λ values. ends_so (array_of name size true values)))
 
-pub equals_next : (name : Name) (size : ArraySize) (tokens : List Token) (first : Token) (rest : List Token) → IsEnded tokens → tokens ≡ first ∷ rest → first.kind ≡ kind.Mark mark.Assign → Passes (ListedRest name size) (AfterSize name size) stops_anywhere rest tokens
+pub equals_next : (name : Name) (size : ArraySize) (tokens : List Token) (first : Token) (rest : List Token) → IsEnded tokens → tokens ≡ first ∷ rest → first.kind ≡ kind.Mark mark.Assign
+    → Passes (ListedRest name size) (AfterSize name size) stops_anywhere rest tokens
 equals_next name size tokens first rest ended split same =
-    passes_through (then_passes (tok_follows (kind.Mark mark.Assign) {second = λ equals. ListedRest name size} stops_anywhere (λ equals. listed_completes name size)) tokens rest first (tok_found (token_found (kind.Mark mark.Assign) tokens first rest ended split same (λ h. cc))))
-    (passes_that (kind.Mark mark.Semicolon) (λ end. Ret (array_of name size false [])) (Then (Tok (kind.Mark mark.Assign)) (λ equals. ListedRest name size)) stops_anywhere tokens (begins_other (kind.Mark mark.Semicolon) tokens first rest split (λ h. cc)))
+    passes_through (then_passes (tok_follows (kind.Mark mark.Assign) {second = λ equals. ListedRest name size} stops_anywhere (λ equals. listed_completes name size)) tokens rest first
+    (tok_found (token_found (kind.Mark mark.Assign) tokens first rest ended split same (λ h. cc))))
+    (passes_that (kind.Mark mark.Semicolon) (λ end. Ret (array_of name size false [])) (Then (Tok (kind.Mark mark.Assign)) (λ equals. ListedRest name size)) stops_anywhere tokens
+    (begins_other (kind.Mark mark.Semicolon) tokens first rest split (λ h. cc)))
 
-pub unlisted_next : (name : Name) (size : ArraySize) (tokens : List Token) (first : Token) (rest : List Token) → tokens ≡ first ∷ rest → (first.kind ≡ kind.Mark mark.Assign → ⊥) → Passes (Then (Tok (kind.Mark mark.Semicolon)) (λ end. Ret (array_of name size false []))) (AfterSize name size) stops_anywhere tokens tokens
+pub unlisted_next : (name : Name) (size : ArraySize) (tokens : List Token) (first : Token) (rest : List Token) → tokens ≡ first ∷ rest → (first.kind ≡ kind.Mark mark.Assign → ⊥)
+    → Passes (Then (Tok (kind.Mark mark.Semicolon)) (λ end. Ret (array_of name size false []))) (AfterSize name size) stops_anywhere tokens tokens
 unlisted_next name size tokens first rest split other =
-    passes_this (Then (Tok (kind.Mark mark.Semicolon)) (λ end. Ret (array_of name size false []))) (kind.Mark mark.Assign) (λ equals. ListedRest name size) stops_anywhere tokens (begins_other (kind.Mark mark.Assign) tokens first rest split other)
+    passes_this (Then (Tok (kind.Mark mark.Semicolon)) (λ end. Ret (array_of name size false []))) (kind.Mark mark.Assign) (λ equals. ListedRest name size) stops_anywhere tokens
+    (begins_other (kind.Mark mark.Assign) tokens first rest split other)
 
-pub listed_opening : (name : Name) (size : ArraySize) → Follows (Tok (kind.Mark mark.OpenBrace)) stops_anywhere (λ opening. Then (ListUntil (kind.Mark mark.CloseBrace) SpellsValue) (λ values. Then (Tok (kind.Mark mark.Semicolon)) (λ end. Ret (array_of name size true values)))) stops_anywhere
-listed_opening name size = tok_follows (kind.Mark mark.OpenBrace) stops_anywhere (λ opening. completes_then (completes_list (kind.Mark mark.CloseBrace) SpellsValue stops_anywhere) (λ values. ends_so (array_of name size true values)))
+pub listed_opening : (name : Name) (size : ArraySize) → Follows (Tok (kind.Mark mark.OpenBrace)) stops_anywhere
+    (λ opening. Then (ListUntil (kind.Mark mark.CloseBrace) SpellsValue) (λ values. Then (Tok (kind.Mark mark.Semicolon)) (λ end. Ret (array_of name size true values)))) stops_anywhere
+listed_opening name size = tok_follows (kind.Mark mark.OpenBrace) stops_anywhere (λ opening. completes_then (completes_list (kind.Mark mark.CloseBrace) SpellsValue stops_anywhere)
+    (λ values. ends_so (array_of name size true values)))
 
 -- values up to the brace have one end
-values_once : {tokens middle middle' : List Token} {vs vs' : List Valued} → ListUntil (kind.Mark mark.CloseBrace) SpellsValue tokens middle vs → ListUntil (kind.Mark mark.CloseBrace) SpellsValue tokens middle' vs' → (middle ≡ middle') × (vs ≡ vs')
+values_once : {tokens middle middle' : List Token} {vs vs' : List Valued} → ListUntil (kind.Mark mark.CloseBrace) SpellsValue tokens middle vs
+    → ListUntil (kind.Mark mark.CloseBrace) SpellsValue tokens middle' vs' → (middle ≡ middle') × (vs ≡ vs')
 values_once d d' = let both : _ × _ = unique_values d.1 d'.1 refl refl refl d.2 d'.2 in ((cc both.0), both.1)
 
-pub listed_values : (name : Name) (size : ArraySize) → Follows (ListUntil (kind.Mark mark.CloseBrace) SpellsValue) stops_anywhere (λ values. Then (Tok (kind.Mark mark.Semicolon)) (λ end. Ret (array_of name size true values))) stops_anywhere
+pub listed_values : (name : Name) (size : ArraySize) → Follows (ListUntil (kind.Mark mark.CloseBrace) SpellsValue) stops_anywhere
+    (λ values. Then (Tok (kind.Mark mark.Semicolon)) (λ end. Ret (array_of name size true values))) stops_anywhere
 listed_values name size = record {
   unique = λ tokens middle middle' vs vs' d d' s s'. values_once d d';
   same_first = λ token xs ys s. tt;
@@ -113,7 +131,8 @@ int_back {ts = ts} {r = r} (array {token = t} {opening = p} {number = m} {closin
     let to : List Token → Type 0 = λ x. IntRest x r (array_of name (record { at = m.at; number = size }) false []) in
     let same : t ∷ p ∷ m ∷ q ∷ y ∷ r ≡ ts = cc in
     subst to same (seq (name_tok n) (that (seq (tok o) (seq (size_tok k) (seq (tok c) (this (seq (tok l) ret)))))))
-int_back {ts = ts} {r = r} (array {token = t} {opening = p} {number = m} {closing = q} {tokens = w'} {name = name} {n = size} w n o k c (listed {equals = a'} {opening = b'} {closing = c'} {tokens = d'} {vs = vs} a b d z) l) e h =
+int_back {ts = ts} {r = r} (array {token = t} {opening = p} {number = m} {closing = q} {tokens = w'} {name = name} {n = size} w n o k c
+    (listed {equals = a'} {opening = b'} {closing = c'} {tokens = d'} {vs = vs} a b d z) l) e h =
     let to : List Token → Type 0 = λ x. IntRest x r (array_of name (record { at = m.at; number = size }) true vs) in
     let same : t ∷ p ∷ m ∷ q ∷ a' ∷ b' ∷ d' ≡ ts = cc in
     subst to same (seq (name_tok n) (that (seq (tok o) (seq (size_tok k) (seq (tok c) (that (seq (tok a) (seq (tok b) (seq (c', d, z) (seq (tok l) ret))))))))))
@@ -148,7 +167,8 @@ some_shared = record {
   some = λ others. scalar refl refl refl;
 }
 
-pub shared_refused : (tokens : List Token) (first : Token) (rest : List Token) → tokens ≡ first ∷ rest → (first.kind ≡ kind.Word word.Int → ⊥) → (first.kind ≡ kind.Word word.Tally → ⊥) → Refused SpellsShared stops_anywhere tokens first.at
+pub shared_refused : (tokens : List Token) (first : Token) (rest : List Token) → tokens ≡ first ∷ rest → (first.kind ≡ kind.Word word.Int → ⊥) → (first.kind ≡ kind.Word word.Tally → ⊥)
+    → Refused SpellsShared stops_anywhere tokens first.at
 shared_refused tokens first rest split i t =
     let at : List Token → Type 0 = λ x. Refused SpellsShared stops_anywhere x first.at in
     subst at (sym split) (refused_here SpellsShared stops_anywhere first rest (λ others r s d h. no_shared_here d refl i t) some_shared.ending some_shared.finished some_shared.some)
@@ -170,7 +190,8 @@ number_is (kind.Text t) n e = cc
 number_is (kind.Mark m) n e = cc
 number_is kind.End n e = cc
 
-pub value_found : (tokens : List Token) (first : Token) (rest : List Token) (n : ℤ) → IsEnded tokens → tokens ≡ first ∷ rest → number_of first.kind ≡ Some n → Found SpellsValue stops_anywhere tokens rest (record { at = first.at; number = n })
+pub value_found : (tokens : List Token) (first : Token) (rest : List Token) (n : ℤ) → IsEnded tokens → tokens ≡ first ∷ rest → number_of first.kind ≡ Some n
+    → Found SpellsValue stops_anywhere tokens rest (record { at = first.at; number = n })
 value_found tokens first rest n ended split is = let same : first.kind ≡ kind.Number n = number_is first.kind n is in record {
   read = first ∷ [];
   split = split;
@@ -183,7 +204,8 @@ no_value_here : {first : Token} {all ts r : List Token} {v : Valued} → SpellsV
 no_value_here (plain {n = n} k) e m none = let at : number_of (kind.Number n) ≡ None = cc in cc
 no_value_here (minus s k) e m none = m (cc)
 
-pub value_refused : (tokens : List Token) (first : Token) (rest : List Token) → tokens ≡ first ∷ rest → (first.kind ≡ kind.Mark mark.Minus → ⊥) → number_of first.kind ≡ None → Refused SpellsValue stops_anywhere tokens first.at
+pub value_refused : (tokens : List Token) (first : Token) (rest : List Token) → tokens ≡ first ∷ rest → (first.kind ≡ kind.Mark mark.Minus → ⊥) → number_of first.kind ≡ None
+    → Refused SpellsValue stops_anywhere tokens first.at
 value_refused tokens first rest split m none =
     let at : List Token → Type 0 = λ x. Refused SpellsValue stops_anywhere x first.at in
     subst at (sym split) (refused_here SpellsValue stops_anywhere first rest (λ others r v d h. no_value_here d refl m none) some_value.ending some_value.finished some_value.some)
@@ -206,7 +228,8 @@ negated n k found fits =
     let at : ℤ → Type 0 = λ x. to_z w64 (of_z w64 (pos 0 -ℤ x)) ≡ neg_ℤ x in
     subst at (sym h.2) (ap (λ x. to_z w64 (of_z w64 x)) (+ℤ_idl (neg_ℤ (pos h.0))) ∙ to_z-of_z w64 (neg_ℤ (pos h.0)) (minus_natural h.0 (subst fits_at h.2 fits)))
 
-pub negative_found : (sign : Token) (tokens : List Token) (first : Token) (rest : List Token) (n : ℤ) → sign.kind ≡ kind.Mark mark.Minus → IsEnded tokens → tokens ≡ first ∷ rest → natural_of first.kind ≡ Some n → Found (behind sign SpellsValue) stops_anywhere tokens rest (record { at = sign.at; number = neg_ℤ n })
+pub negative_found : (sign : Token) (tokens : List Token) (first : Token) (rest : List Token) (n : ℤ) → sign.kind ≡ kind.Mark mark.Minus → IsEnded tokens → tokens ≡ first ∷ rest
+    → natural_of first.kind ≡ Some n → Found (behind sign SpellsValue) stops_anywhere tokens rest (record { at = sign.at; number = neg_ℤ n })
 negative_found sign tokens first rest n s ended split is =
     let h : _ × _ × _ = natural_is (number_of first.kind) n is in
     let same : first.kind ≡ kind.Number (pos h.0) = number_is first.kind (pos h.0) h.1 in
@@ -223,36 +246,44 @@ no_negative_here : {sign first : Token} {all ts r : List Token} {v : Valued} →
 no_negative_here (plain {n = n} k) e m none = cc
 no_negative_here (minus {n = n} s k) e m none = let at : natural_of (kind.Number (pos n)) ≡ None = cc in cc
 
-pub negative_refused : (sign : Token) (tokens : List Token) (first : Token) (rest : List Token) → sign.kind ≡ kind.Mark mark.Minus → tokens ≡ first ∷ rest → natural_of first.kind ≡ None → Refused (behind sign SpellsValue) stops_anywhere tokens first.at
+pub negative_refused : (sign : Token) (tokens : List Token) (first : Token) (rest : List Token) → sign.kind ≡ kind.Mark mark.Minus → tokens ≡ first ∷ rest → natural_of first.kind ≡ None
+    → Refused (behind sign SpellsValue) stops_anywhere tokens first.at
 negative_refused sign tokens first rest s split none =
     let at : List Token → Type 0 = λ x. Refused (behind sign SpellsValue) stops_anywhere x first.at in
     subst at (sym split) (refused_here (behind sign SpellsValue) stops_anywhere first rest (λ others r v d h. no_negative_here d refl s none)
     (some_token (kind.Number (pos 0)) ∷ []) (record { at = sign.at; number = neg_ℤ (pos 0) }) (λ others. minus s refl))
 
-once : (tokens middle middle' : List Token) (x x' : Valued) → SpellsValue tokens middle x → SpellsValue tokens middle' x' → stops_anywhere middle → stops_anywhere middle' → (middle ≡ middle') × (x ≡ x')
+once : (tokens middle middle' : List Token) (x x' : Valued) → SpellsValue tokens middle x → SpellsValue tokens middle' x' → stops_anywhere middle → stops_anywhere middle'
+    → (middle ≡ middle') × (x ≡ x')
 once tokens middle middle' x x' d d' s s' = unique_value d d' refl
 
 abbrev brace : TokenKind
 brace = kind.Mark mark.CloseBrace
 
-pub values_nothing : (tokens : List Token) (first : Token) (rest : List Token) → IsEnded tokens → tokens ≡ first ∷ rest → first.kind ≡ brace → Found (ListUntil brace SpellsValue) stops_anywhere tokens rest []
+pub values_nothing : (tokens : List Token) (first : Token) (rest : List Token) → IsEnded tokens → tokens ≡ first ∷ rest → first.kind ≡ brace
+    → Found (ListUntil brace SpellsValue) stops_anywhere tokens rest []
 values_nothing tokens first rest ended split same =
     list_nothing brace SpellsValue stops_anywhere once (λ _ _ _ _. tt) (λ _ _ _ _ _ d. no_value_closes d) (λ _ _ _. tt) (λ _ _ _. tt) (λ h. cc) some_value tokens first rest ended split same (λ h. cc)
 
 pub values_err : (tokens : List Token) (e : ParseError) → BeginsOtherThan brace tokens → Fails SpellsValue stops_anywhere tokens e → Fails (ListUntil brace SpellsValue) stops_anywhere tokens e
 values_err = list_err brace SpellsValue stops_anywhere once (λ _ _ _ _. tt) (λ _ _ _ _ _ d. no_value_closes d) (λ _ _ _. tt) (λ _ _ _. tt) (λ h. cc) some_value
 
-pub values_begun : (tokens middle : List Token) (x : Valued) → BeginsOtherThan brace tokens → Found SpellsValue stops_anywhere tokens middle x → Passes (MoreUntil brace SpellsValue (x ∷ [])) (ListUntil brace SpellsValue) stops_anywhere middle tokens
+pub values_begun : (tokens middle : List Token) (x : Valued) → BeginsOtherThan brace tokens → Found SpellsValue stops_anywhere tokens middle x
+    → Passes (MoreUntil brace SpellsValue (x ∷ [])) (ListUntil brace SpellsValue) stops_anywhere middle tokens
 values_begun = list_begun brace SpellsValue stops_anywhere once (λ _ _ _ _. tt) (λ _ _ _ _ _ d. no_value_closes d) (λ _ _ _. tt) (λ _ _ _. tt) (λ h. cc) some_value
 
-pub values_more_err : (sofar : List Valued) (tokens : List Token) (comma : Token) (rest : List Token) (e : ParseError) → IsEnded tokens → tokens ≡ comma ∷ rest → comma.kind ≡ kind.Mark mark.Comma → Fails SpellsValue stops_anywhere rest e → Fails (MoreUntil brace SpellsValue sofar) stops_anywhere tokens e
+pub values_more_err : (sofar : List Valued) (tokens : List Token) (comma : Token) (rest : List Token) (e : ParseError) → IsEnded tokens → tokens ≡ comma ∷ rest → comma.kind ≡ kind.Mark mark.Comma
+    → Fails SpellsValue stops_anywhere rest e → Fails (MoreUntil brace SpellsValue sofar) stops_anywhere tokens e
 values_more_err = more_err brace SpellsValue stops_anywhere once (λ _ _ _ _. tt) (λ _ _ _ _ _ d. no_value_closes d) (λ _ _ _. tt) (λ _ _ _. tt) (λ h. cc) some_value
 
-pub values_more : (sofar : List Valued) (tokens : List Token) (comma : Token) (rest middle : List Token) (x : Valued) → IsEnded tokens → tokens ≡ comma ∷ rest → comma.kind ≡ kind.Mark mark.Comma → Found SpellsValue stops_anywhere rest middle x → Passes (MoreUntil brace SpellsValue (sofar ++ x ∷ [])) (MoreUntil brace SpellsValue sofar) stops_anywhere middle tokens
+pub values_more : (sofar : List Valued) (tokens : List Token) (comma : Token) (rest middle : List Token) (x : Valued) → IsEnded tokens → tokens ≡ comma ∷ rest → comma.kind ≡ kind.Mark mark.Comma
+    → Found SpellsValue stops_anywhere rest middle x → Passes (MoreUntil brace SpellsValue (sofar ++ x ∷ [])) (MoreUntil brace SpellsValue sofar) stops_anywhere middle tokens
 values_more = more_step brace SpellsValue stops_anywhere once (λ _ _ _ _. tt) (λ _ _ _ _ _ d. no_value_closes d) (λ _ _ _. tt) (λ _ _ _. tt) (λ h. cc) some_value
 
-pub values_last_err : (sofar : List Valued) (tokens : List Token) (e : ParseError) → BeginsOtherThan (kind.Mark mark.Comma) tokens → Fails (IsToken brace) stops_anywhere tokens e → Fails (MoreUntil brace SpellsValue sofar) stops_anywhere tokens e
+pub values_last_err : (sofar : List Valued) (tokens : List Token) (e : ParseError) → BeginsOtherThan (kind.Mark mark.Comma) tokens → Fails (IsToken brace) stops_anywhere tokens e
+    → Fails (MoreUntil brace SpellsValue sofar) stops_anywhere tokens e
 values_last_err = last_err brace SpellsValue stops_anywhere once (λ _ _ _ _. tt) (λ _ _ _ _ _ d. no_value_closes d) (λ _ _ _. tt) (λ _ _ _. tt) (λ h. cc) some_value
 
-pub values_last : (sofar : List Valued) (tokens rest : List Token) (closing : Token) → BeginsOtherThan (kind.Mark mark.Comma) tokens → Found (IsToken brace) stops_anywhere tokens rest closing → Found (MoreUntil brace SpellsValue sofar) stops_anywhere tokens rest sofar
+pub values_last : (sofar : List Valued) (tokens rest : List Token) (closing : Token) → BeginsOtherThan (kind.Mark mark.Comma) tokens → Found (IsToken brace) stops_anywhere tokens rest closing
+    → Found (MoreUntil brace SpellsValue sofar) stops_anywhere tokens rest sofar
 values_last = last_ok brace SpellsValue stops_anywhere once (λ _ _ _ _. tt) (λ _ _ _ _ _ d. no_value_closes d) (λ _ _ _. tt) (λ _ _ _. tt) (λ h. cc) some_value

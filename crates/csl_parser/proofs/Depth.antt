@@ -31,10 +31,12 @@ keeps_done nesting rest tokens keeps none =
     let from : List Token → Type 0 = λ x. IsFlatFrom nesting x in
     keeps.flat (subst from (sym none) tt)
 
-pub keeps_deep : (nesting : Nesting) (rest tokens : List Token) (token : Token) (left : List Token) → Keeps nesting rest tokens → rest ≡ token ∷ left → most_levels < (behind token nesting).level → IsTooDeep tokens token.at
+pub keeps_deep : (nesting : Nesting) (rest tokens : List Token) (token : Token) (left : List Token) → Keeps nesting rest tokens → rest ≡ token ∷ left → most_levels < (behind token nesting).level
+    → IsTooDeep tokens token.at
 keeps_deep nesting rest tokens token left keeps split deep = keeps.deep token.at (record { before = []; token = token; after = left; split = split; stands = refl; flat = tt; deep = deep })
 
-pub keeps_more : (nesting : Nesting) (rest tokens : List Token) (token : Token) (left : List Token) → Keeps nesting rest tokens → rest ≡ token ∷ left → (behind token nesting).level ≤ most_levels → Keeps (behind token nesting) left tokens
+pub keeps_more : (nesting : Nesting) (rest tokens : List Token) (token : Token) (left : List Token) → Keeps nesting rest tokens → rest ≡ token ∷ left → (behind token nesting).level ≤ most_levels
+    → Keeps (behind token nesting) left tokens
 keeps_more nesting rest tokens token left keeps split low = record {
   flat = λ h.
       let from : List Token → Type 0 = λ x. IsFlatFrom nesting x in

@@ -24,7 +24,8 @@ use Rattle.expression_parser.specs.Reading.{Found, Refused, Fails, Answers, IsTo
 use Rattle.csl_parser.specs.Program.{param_of, function_of, program_of, ParamRest, ParamsRest, FunctionRest, MainRest, FunctionsRest, ProgramTokens}
 use Rattle.expression_parser.proofs.Sequence.{Passes, passes_same, refused_here}
 use Rattle.expression_parser.proofs.Single.{some_token}
-use Rattle.expression_parser.proofs.Then.{Completes, Follows, completes_ret, completes_tok, completes_name, completes_then, completes_list, completes_until, tok_follows, name_follows, no_name, list_nothing, list_err, list_begun, more_err, more_step, last_err, last_ok, until_done, until_err, until_more}
+use Rattle.expression_parser.proofs.Then.{Completes, Follows, completes_ret, completes_tok, completes_name, completes_then, completes_list, completes_until, tok_follows, name_follows, no_name}
+use Rattle.expression_parser.proofs.Then.{list_nothing, list_err, list_begun, more_err, more_step, last_err, last_ok, until_done, until_err, until_more}
 
 abbrev round : TokenKind
 round = kind.Mark mark.CloseParen
@@ -65,36 +66,45 @@ some_param = record {
   some = λ others. param refl refl;
 }
 
-pub param_refused : (tokens : List Token) (first : Token) (rest : List Token) → tokens ≡ first ∷ rest → ((t : Ty) → first.kind ≡ kind.Word (type_word t) → ⊥) → Refused SpellsParam stops_anywhere tokens first.at
+pub param_refused : (tokens : List Token) (first : Token) (rest : List Token) → tokens ≡ first ∷ rest → ((t : Ty) → first.kind ≡ kind.Word (type_word t) → ⊥)
+    → Refused SpellsParam stops_anywhere tokens first.at
 param_refused tokens first rest split never =
     let at : List Token → Type 0 = λ x. Refused SpellsParam stops_anywhere x first.at in
     subst at (sym split) (refused_here SpellsParam stops_anywhere first rest (λ others r p d h. no_param_here d refl never) some_param.ending some_param.finished some_param.some)
 
 -- ---- the parameters of a function
 
-param_once : (tokens middle middle' : List Token) (x x' : Param) → SpellsParam tokens middle x → SpellsParam tokens middle' x' → stops_anywhere middle → stops_anywhere middle' → (middle ≡ middle') × (x ≡ x')
+param_once : (tokens middle middle' : List Token) (x x' : Param) → SpellsParam tokens middle x → SpellsParam tokens middle' x' → stops_anywhere middle → stops_anywhere middle'
+    → (middle ≡ middle') × (x ≡ x')
 param_once tokens middle middle' x x' d d' s s' = unique_param d d' refl
 
-pub params_nothing : (tokens : List Token) (first : Token) (rest : List Token) → IsEnded tokens → tokens ≡ first ∷ rest → first.kind ≡ round → Found (ListUntil round SpellsParam) stops_anywhere tokens rest []
+pub params_nothing : (tokens : List Token) (first : Token) (rest : List Token) → IsEnded tokens → tokens ≡ first ∷ rest → first.kind ≡ round
+    → Found (ListUntil round SpellsParam) stops_anywhere tokens rest []
 params_nothing tokens first rest ended split same =
-    list_nothing round SpellsParam stops_anywhere param_once (λ _ _ _ _. tt) (λ _ _ _ _ _ d. no_param_closes d) (λ _ _ _. tt) (λ _ _ _. tt) (λ h. cc) some_param tokens first rest ended split same (λ h. cc)
+    list_nothing round SpellsParam stops_anywhere param_once (λ _ _ _ _. tt) (λ _ _ _ _ _ d. no_param_closes d) (λ _ _ _. tt) (λ _ _ _. tt) (λ h. cc) some_param tokens first rest ended split same
+    (λ h. cc)
 
 pub params_err : (tokens : List Token) (e : ParseError) → BeginsOtherThan round tokens → Fails SpellsParam stops_anywhere tokens e → Fails (ListUntil round SpellsParam) stops_anywhere tokens e
 params_err = list_err round SpellsParam stops_anywhere param_once (λ _ _ _ _. tt) (λ _ _ _ _ _ d. no_param_closes d) (λ _ _ _. tt) (λ _ _ _. tt) (λ h. cc) some_param
 
-pub params_begun : (tokens middle : List Token) (x : Param) → BeginsOtherThan round tokens → Found SpellsParam stops_anywhere tokens middle x → Passes (MoreUntil round SpellsParam (x ∷ [])) (ListUntil round SpellsParam) stops_anywhere middle tokens
+pub params_begun : (tokens middle : List Token) (x : Param) → BeginsOtherThan round tokens → Found SpellsParam stops_anywhere tokens middle x
+    → Passes (MoreUntil round SpellsParam (x ∷ [])) (ListUntil round SpellsParam) stops_anywhere middle tokens
 params_begun = list_begun round SpellsParam stops_anywhere param_once (λ _ _ _ _. tt) (λ _ _ _ _ _ d. no_param_closes d) (λ _ _ _. tt) (λ _ _ _. tt) (λ h. cc) some_param
 
-pub params_more_err : (sofar : List Param) (tokens : List Token) (comma : Token) (rest : List Token) (e : ParseError) → IsEnded tokens → tokens ≡ comma ∷ rest → comma.kind ≡ kind.Mark mark.Comma → Fails SpellsParam stops_anywhere rest e → Fails (MoreUntil round SpellsParam sofar) stops_anywhere tokens e
+pub params_more_err : (sofar : List Param) (tokens : List Token) (comma : Token) (rest : List Token) (e : ParseError) → IsEnded tokens → tokens ≡ comma ∷ rest → comma.kind ≡ kind.Mark mark.Comma
+    → Fails SpellsParam stops_anywhere rest e → Fails (MoreUntil round SpellsParam sofar) stops_anywhere tokens e
 params_more_err = more_err round SpellsParam stops_anywhere param_once (λ _ _ _ _. tt) (λ _ _ _ _ _ d. no_param_closes d) (λ _ _ _. tt) (λ _ _ _. tt) (λ h. cc) some_param
 
-pub params_more : (sofar : List Param) (tokens : List Token) (comma : Token) (rest middle : List Token) (x : Param) → IsEnded tokens → tokens ≡ comma ∷ rest → comma.kind ≡ kind.Mark mark.Comma → Found SpellsParam stops_anywhere rest middle x → Passes (MoreUntil round SpellsParam (sofar ++ x ∷ [])) (MoreUntil round SpellsParam sofar) stops_anywhere middle tokens
+pub params_more : (sofar : List Param) (tokens : List Token) (comma : Token) (rest middle : List Token) (x : Param) → IsEnded tokens → tokens ≡ comma ∷ rest → comma.kind ≡ kind.Mark mark.Comma
+    → Found SpellsParam stops_anywhere rest middle x → Passes (MoreUntil round SpellsParam (sofar ++ x ∷ [])) (MoreUntil round SpellsParam sofar) stops_anywhere middle tokens
 params_more = more_step round SpellsParam stops_anywhere param_once (λ _ _ _ _. tt) (λ _ _ _ _ _ d. no_param_closes d) (λ _ _ _. tt) (λ _ _ _. tt) (λ h. cc) some_param
 
-pub params_last_err : (sofar : List Param) (tokens : List Token) (e : ParseError) → BeginsOtherThan (kind.Mark mark.Comma) tokens → Fails (IsToken round) stops_anywhere tokens e → Fails (MoreUntil round SpellsParam sofar) stops_anywhere tokens e
+pub params_last_err : (sofar : List Param) (tokens : List Token) (e : ParseError) → BeginsOtherThan (kind.Mark mark.Comma) tokens → Fails (IsToken round) stops_anywhere tokens e
+    → Fails (MoreUntil round SpellsParam sofar) stops_anywhere tokens e
 params_last_err = last_err round SpellsParam stops_anywhere param_once (λ _ _ _ _. tt) (λ _ _ _ _ _ d. no_param_closes d) (λ _ _ _. tt) (λ _ _ _. tt) (λ h. cc) some_param
 
-pub params_last : (sofar : List Param) (tokens rest : List Token) (closing : Token) → BeginsOtherThan (kind.Mark mark.Comma) tokens → Found (IsToken round) stops_anywhere tokens rest closing → Found (MoreUntil round SpellsParam sofar) stops_anywhere tokens rest sofar
+pub params_last : (sofar : List Param) (tokens rest : List Token) (closing : Token) → BeginsOtherThan (kind.Mark mark.Comma) tokens → Found (IsToken round) stops_anywhere tokens rest closing
+    → Found (MoreUntil round SpellsParam sofar) stops_anywhere tokens rest sofar
 params_last = last_ok round SpellsParam stops_anywhere param_once (λ _ _ _ _. tt) (λ _ _ _ _ _ d. no_param_closes d) (λ _ _ _. tt) (λ _ _ _. tt) (λ h. cc) some_param
 
 -- ---- one function
@@ -118,7 +128,8 @@ block_last f = record {
 block_as : {T : Type 0} (f : List Stmt → T) → Completes (Then SpellsBlock (λ body. Ret (f body)))
 block_as f = completes_then some_block (λ body. completes_ret (f body))
 
-params_once : {tokens middle middle' : List Token} {ps ps' : List Param} → ListUntil round SpellsParam tokens middle ps → ListUntil round SpellsParam tokens middle' ps' → (middle ≡ middle') × (ps ≡ ps')
+params_once : {tokens middle middle' : List Token} {ps ps' : List Param} → ListUntil round SpellsParam tokens middle ps → ListUntil round SpellsParam tokens middle' ps'
+    → (middle ≡ middle') × (ps ≡ ps')
 params_once d d' = let both : _ × _ = unique_params d.1 d'.1 refl refl refl d.2 d'.2 in ((cc both.0), both.1)
 
 pub function_params : (g : Gives) (name : Name) → Follows (ListUntil round SpellsParam) stops_anywhere (λ params. Then SpellsBlock (λ body. Ret (function_of g name params body))) stops_anywhere
@@ -151,52 +162,66 @@ function_back {g = g} {r = r} w (function {token = x} {opening = y} {closing = z
     subst at (sym same) (seq (name_tok n) (seq (tok o) (seq (z, d, c) (seq b ret))))
 
 pub function_same : (first : Token) (g : Gives) (tokens : List Token) → first.kind ≡ kind.Word (result_word g) → Passes (FunctionRest g) (behind first SpellsFunction) stops_anywhere tokens tokens
-function_same first g tokens w = passes_same (FunctionRest g) (behind first SpellsFunction) stops_anywhere tokens (record { there = λ ts r f d. function_there w d; back = λ ts r f d h. function_back w d })
+function_same first g tokens w = passes_same (FunctionRest g) (behind first SpellsFunction) stops_anywhere tokens
+    (record { there = λ ts r f d. function_there w d; back = λ ts r f d h. function_back w d })
 
 no_function_here : {first : Token} {all ts r : List Token} {f : Function} → SpellsFunction all r f → all ≡ first ∷ ts → ((g : Gives) → first.kind ≡ kind.Word (result_word g) → ⊥) → ⊥
 no_function_here (function {g = g} w n o d c b) e never = never g (cc)
 
-pub function_refused : (tokens : List Token) (first : Token) (rest : List Token) → tokens ≡ first ∷ rest → ((g : Gives) → first.kind ≡ kind.Word (result_word g) → ⊥) → Refused SpellsFunction stops_anywhere tokens first.at
+pub function_refused : (tokens : List Token) (first : Token) (rest : List Token) → tokens ≡ first ∷ rest → ((g : Gives) → first.kind ≡ kind.Word (result_word g) → ⊥)
+    → Refused SpellsFunction stops_anywhere tokens first.at
 function_refused tokens first rest split never =
     let some : Completes (FunctionRest gives.Nothing) = completes_then completes_name (λ name. completes_then (completes_tok (kind.Mark mark.OpenParen)) (λ opening. params_rest gives.Nothing name)) in
     let void : Token = some_token (kind.Word word.Void) in
     let at : List Token → Type 0 = λ x. Refused SpellsFunction stops_anywhere x first.at in
-    subst at (sym split) (refused_here SpellsFunction stops_anywhere first rest (λ others r f d h. no_function_here d refl never) (void ∷ some.ending) some.finished (λ others. function_there refl (some.some others)))
+    subst at (sym split) (refused_here SpellsFunction stops_anywhere first rest (λ others r f d h. no_function_here d refl never) (void ∷ some.ending) some.finished
+    (λ others. function_there refl (some.some others)))
 
 -- ---- shared declarations up to the brace, functions up to `main`
 
-shared_once : (tokens middle middle' : List Token) (x x' : Shared) → SpellsShared tokens middle x → SpellsShared tokens middle' x' → stops_anywhere middle → stops_anywhere middle' → (middle ≡ middle') × (x ≡ x')
+shared_once : (tokens middle middle' : List Token) (x x' : Shared) → SpellsShared tokens middle x → SpellsShared tokens middle' x' → stops_anywhere middle → stops_anywhere middle'
+    → (middle ≡ middle') × (x ≡ x')
 shared_once tokens middle middle' x x' d d' s s' = unique_shared d d' refl
 
-pub shared_done : (sofar : List Shared) (tokens : List Token) (first : Token) (rest : List Token) → IsEnded tokens → tokens ≡ first ∷ rest → first.kind ≡ brace → Found (Until brace SpellsShared sofar) stops_anywhere tokens rest sofar
+pub shared_done : (sofar : List Shared) (tokens : List Token) (first : Token) (rest : List Token) → IsEnded tokens → tokens ≡ first ∷ rest → first.kind ≡ brace
+    → Found (Until brace SpellsShared sofar) stops_anywhere tokens rest sofar
 shared_done sofar tokens first rest ended split same = until_done brace SpellsShared stops_anywhere shared_once (λ _ _ _ _. tt) (λ _ _ _ _ _ _. tt) sofar tokens first rest ended split same (λ h. cc)
 
-pub shared_err : (sofar : List Shared) (tokens : List Token) (e : ParseError) → BeginsOtherThan brace tokens → Fails SpellsShared stops_anywhere tokens e → Fails (Until brace SpellsShared sofar) stops_anywhere tokens e
+pub shared_err : (sofar : List Shared) (tokens : List Token) (e : ParseError) → BeginsOtherThan brace tokens → Fails SpellsShared stops_anywhere tokens e
+    → Fails (Until brace SpellsShared sofar) stops_anywhere tokens e
 shared_err = until_err brace SpellsShared stops_anywhere shared_once (λ _ _ _ _. tt) (λ _ _ _ _ _ _. tt)
 
-pub shared_more : (sofar : List Shared) (tokens middle : List Token) (x : Shared) → BeginsOtherThan brace tokens → Found SpellsShared stops_anywhere tokens middle x → Passes (Until brace SpellsShared (sofar ++ x ∷ [])) (Until brace SpellsShared sofar) stops_anywhere middle tokens
+pub shared_more : (sofar : List Shared) (tokens middle : List Token) (x : Shared) → BeginsOtherThan brace tokens → Found SpellsShared stops_anywhere tokens middle x
+    → Passes (Until brace SpellsShared (sofar ++ x ∷ [])) (Until brace SpellsShared sofar) stops_anywhere middle tokens
 shared_more = until_more brace SpellsShared stops_anywhere shared_once (λ _ _ _ _. tt) (λ _ _ _ _ _ _. tt)
 
-function_once : (tokens middle middle' : List Token) (x x' : Function) → SpellsFunction tokens middle x → SpellsFunction tokens middle' x' → stops_anywhere middle → stops_anywhere middle' → (middle ≡ middle') × (x ≡ x')
+function_once : (tokens middle middle' : List Token) (x x' : Function) → SpellsFunction tokens middle x → SpellsFunction tokens middle' x' → stops_anywhere middle → stops_anywhere middle'
+    → (middle ≡ middle') × (x ≡ x')
 function_once tokens middle middle' x x' d d' s s' = unique_function d d' refl
 
-pub functions_done : (sofar : List Function) (tokens : List Token) (first : Token) (rest : List Token) → IsEnded tokens → tokens ≡ first ∷ rest → first.kind ≡ main → Found (Until main SpellsFunction sofar) stops_anywhere tokens rest sofar
-functions_done sofar tokens first rest ended split same = until_done main SpellsFunction stops_anywhere function_once (λ _ _ _ _. tt) (λ _ _ _ _ _ _. tt) sofar tokens first rest ended split same (λ h. cc)
+pub functions_done : (sofar : List Function) (tokens : List Token) (first : Token) (rest : List Token) → IsEnded tokens → tokens ≡ first ∷ rest → first.kind ≡ main
+    → Found (Until main SpellsFunction sofar) stops_anywhere tokens rest sofar
+functions_done sofar tokens first rest ended split same = until_done main SpellsFunction stops_anywhere function_once (λ _ _ _ _. tt) (λ _ _ _ _ _ _. tt) sofar tokens first rest ended split same
+    (λ h. cc)
 
-pub functions_err : (sofar : List Function) (tokens : List Token) (e : ParseError) → BeginsOtherThan main tokens → Fails SpellsFunction stops_anywhere tokens e → Fails (Until main SpellsFunction sofar) stops_anywhere tokens e
+pub functions_err : (sofar : List Function) (tokens : List Token) (e : ParseError) → BeginsOtherThan main tokens → Fails SpellsFunction stops_anywhere tokens e
+    → Fails (Until main SpellsFunction sofar) stops_anywhere tokens e
 functions_err = until_err main SpellsFunction stops_anywhere function_once (λ _ _ _ _. tt) (λ _ _ _ _ _ _. tt)
 
-pub functions_more : (sofar : List Function) (tokens middle : List Token) (x : Function) → BeginsOtherThan main tokens → Found SpellsFunction stops_anywhere tokens middle x → Passes (Until main SpellsFunction (sofar ++ x ∷ [])) (Until main SpellsFunction sofar) stops_anywhere middle tokens
+pub functions_more : (sofar : List Function) (tokens middle : List Token) (x : Function) → BeginsOtherThan main tokens → Found SpellsFunction stops_anywhere tokens middle x
+    → Passes (Until main SpellsFunction (sofar ++ x ∷ [])) (Until main SpellsFunction sofar) stops_anywhere middle tokens
 functions_more = until_more main SpellsFunction stops_anywhere function_once (λ _ _ _ _. tt) (λ _ _ _ _ _ _. tt)
 
 -- ---- a program but for its end
 
-pub all_shared_once : {ts ts' middle middle' : List Token} {xs xs' : List Shared} → Until brace SpellsShared [] ts middle xs → Until brace SpellsShared [] ts' middle' xs' → ts ≡ ts' → (middle ≡ middle') × (xs ≡ xs')
+pub all_shared_once : {ts ts' middle middle' : List Token} {xs xs' : List Shared} → Until brace SpellsShared [] ts middle xs → Until brace SpellsShared [] ts' middle' xs' → ts ≡ ts'
+    → (middle ≡ middle') × (xs ≡ xs')
 all_shared_once d d' e =
     let both : _ × _ = unique_each brace (λ _ _ _ _ _ _ a b. unique_shared a b) (λ _ _ _ _ _ a. no_shared a) d.2 d'.2 e refl refl d.3 d'.3 in
     ((cc both.0), d.4 ∙ both.1 ∙ sym d'.4)
 
-pub all_functions_once : {ts ts' middle middle' : List Token} {xs xs' : List Function} → Until main SpellsFunction [] ts middle xs → Until main SpellsFunction [] ts' middle' xs' → ts ≡ ts' → (middle ≡ middle') × (xs ≡ xs')
+pub all_functions_once : {ts ts' middle middle' : List Token} {xs xs' : List Function} → Until main SpellsFunction [] ts middle xs → Until main SpellsFunction [] ts' middle' xs' → ts ≡ ts'
+    → (middle ≡ middle') × (xs ≡ xs')
 all_functions_once d d' e =
     let both : _ × _ = unique_each main (λ _ _ _ _ _ _ a b. unique_function a b) (λ _ _ _ _ _ a. no_function a) d.2 d'.2 e refl refl d.3 d'.3 in
     ((cc both.0), d.4 ∙ both.1 ∙ sym d'.4)

@@ -24,7 +24,8 @@ pub text_ended : (tokens : List Token) → SomeText tokens → IsEnded tokens
 text_ended tokens some = ends_alone _ tokens (lists_end some.text tokens some.reads)
 
 -- the level of a token in a flat list
-level_in : (before : List Token) (token : Token) (after : List Token) (nesting : Nesting) → IsFlatFrom nesting (before ++ token ∷ after) → (behind token (behind_all before nesting)).level ≤ most_levels
+level_in : (before : List Token) (token : Token) (after : List Token) (nesting : Nesting) → IsFlatFrom nesting (before ++ token ∷ after)
+    → (behind token (behind_all before nesting)).level ≤ most_levels
 level_in [] token after nesting flat = flat.0
 level_in (x ∷ before) token after nesting flat = level_in before token after (behind x nesting) flat.1
 
@@ -41,7 +42,8 @@ flat_only tokens error.NoMemory h flat = refl
 flat_only tokens (error.TooDeep at) h flat = absurd (flat_or_deep tokens at h flat)
 flat_only tokens (error.Unexpected at) h flat = absurd h
 
-pub spelled_only : (tokens : List Token) (result : Result Program ParseError) → Tells tokens result → (p : Program) → SpellsProgram tokens p → MatchResult result (λ found. found ≡ p) (λ e. e ≡ error.NoMemory)
+pub spelled_only : (tokens : List Token) (result : Result Program ParseError) → Tells tokens result → (p : Program) → SpellsProgram tokens p
+    → MatchResult result (λ found. found ≡ p) (λ e. e ≡ error.NoMemory)
 spelled_only tokens (Ok found) h p d = unique_program h d refl
 spelled_only tokens (Err error.NoMemory) h p d = refl
 spelled_only tokens (Err (error.TooDeep at)) h p d = absurd h

@@ -35,7 +35,8 @@ unended (program {closing = closing} {main = main} {end = end} {shared = xs} {fu
   before = seq (tok s) (seq (tok o) (seq (closing, xs, d, c, refl) (seq (main, fs, f, m, refl) (seq b ret))));
 }
 
-main_once : {xs xs' : List Shared} {fs fs' : List Function} {ts ts' rest rest' : List Token} {p p' : Program} → MainRest xs fs ts rest p → MainRest xs' fs' ts' rest' p' → ts ≡ ts' → xs ≡ xs' → fs ≡ fs' → (rest ≡ rest') × (p ≡ p')
+main_once : {xs xs' : List Shared} {fs fs' : List Function} {ts ts' rest rest' : List Token} {p p' : Program} → MainRest xs fs ts rest p → MainRest xs' fs' ts' rest' p' → ts ≡ ts' → xs ≡ xs'
+    → fs ≡ fs' → (rest ≡ rest') × (p ≡ p')
 main_once (seq b ret) (seq b' ret) e shared functions = let body : _ × _ = unique_block b b' e in (body.0, (cc (shared, functions, body.1)))
 
 -- tokens have one program at their front
@@ -45,7 +46,8 @@ tokens_once (seq (tok s) (seq (tok o) (seq d (seq f m)))) (seq (tok s') (seq (to
     let functions : _ × _ = all_functions_once f f' shared.0 in
     main_once m m' functions.0 shared.1 functions.1
 
-pub whole_found : (tokens rest : List Token) (p : Program) (end : Token) (left : List Token) → Found ProgramTokens stops_anywhere tokens rest p → rest ≡ end ∷ left → end.kind ≡ kind.End → SpellsProgram tokens p
+pub whole_found : (tokens rest : List Token) (p : Program) (end : Token) (left : List Token) → Found ProgramTokens stops_anywhere tokens rest p → rest ≡ end ∷ left → end.kind ≡ kind.End
+    → SpellsProgram tokens p
 whole_found tokens rest p end left found e k =
     let from : List Token → Type 0 = λ x. ProgramTokens x rest p in
     with_end (subst from (sym found.split) (found.spelled rest)) (e ∙ ap (λ x. end ∷ x) (alone end left (subst IsEnded e found.ended) k)) k
@@ -56,7 +58,8 @@ whole_found tokens rest p end left found e k =
 
 -- the tokens before a place are an unfinished program, and with the token there they are none
 module _ (tokens read left : List Token) (token : Token) (split : tokens ≡ read ++ token ∷ left) where
-  pub unexpected : (at : ℕ) → token.at ≡ at → (finishing : List Token) (finished : Program) → ((others : List Token) → ProgramTokens (read ++ (finishing ++ others)) others finished) → ((others rest : List Token) (p : Program) → ProgramTokens (read ++ token ∷ others) rest p → (end : Token) → rest ≡ end ∷ [] → end.kind ≡ kind.End → ⊥) → IsUnexpected tokens at
+  pub unexpected : (at : ℕ) → token.at ≡ at → (finishing : List Token) (finished : Program) → ((others : List Token) → ProgramTokens (read ++ (finishing ++ others)) others finished)
+      → ((others rest : List Token) (p : Program) → ProgramTokens (read ++ token ∷ others) rest p → (end : Token) → rest ≡ end ∷ [] → end.kind ≡ kind.End → ⊥) → IsUnexpected tokens at
   unexpected at stands finishing finished some never = record {
     before = read;
     token = token;
@@ -76,9 +79,11 @@ module _ (tokens read left : List Token) (token : Token) (split : tokens ≡ rea
 pub whole_refused : (tokens : List Token) (at : ℕ) → Refused ProgramTokens stops_anywhere tokens at → IsUnexpected tokens at
 whole_refused tokens at r = unexpected tokens r.read r.left r.token r.split at r.stands r.ending r.finished r.some (λ others rest p d end e k. r.none others rest p d tt)
 
-pub goes_on_behind : (tokens rest : List Token) (p : Program) (next : Token) (left : List Token) → Found ProgramTokens stops_anywhere tokens rest p → rest ≡ next ∷ left → (next.kind ≡ kind.End → ⊥) → IsUnexpected tokens next.at
+pub goes_on_behind : (tokens rest : List Token) (p : Program) (next : Token) (left : List Token) → Found ProgramTokens stops_anywhere tokens rest p → rest ≡ next ∷ left → (next.kind ≡ kind.End → ⊥)
+    → IsUnexpected tokens next.at
 goes_on_behind tokens rest p next left found e other =
-    unexpected tokens found.read left next (found.split ∙ ap (λ x. found.read ++ x) e) next.at refl [] p found.spelled (λ others rest' p' d end e' k. other (cc ((tokens_once (found.spelled (next ∷ others)) d refl).0, e', k)))
+    unexpected tokens found.read left next (found.split ∙ ap (λ x. found.read ++ x) e) next.at refl [] p found.spelled
+    (λ others rest' p' d end e' k. other (cc ((tokens_once (found.spelled (next ∷ others)) d refl).0, e', k)))
 
 pub whole_error : (tokens : List Token) (e : ParseError) → Fails ProgramTokens stops_anywhere tokens e → Tells tokens (Err e)
 whole_error tokens error.NoMemory h = tt

@@ -26,7 +26,8 @@ array_of name size listed values = record { name = name; kind = words.Ordinary; 
 
 -- behind "tally": "int" NAME ";"
 abbrev pub TallyRest : List Token → List Token → Shared → Type 0
-TallyRest = Then (Tok (kind.Word word.Int)) (λ int. Then NameTok (λ name. Then (Tok (kind.Mark mark.Semicolon)) (λ end. Ret (tally_of name))))
+TallyRest = Then (Tok (kind.Word word.Int)) (λ int. Then NameTok
+    (λ name. Then (Tok (kind.Mark mark.Semicolon)) (λ end. Ret (tally_of name))))
 
 -- behind "=": "{" [value {"," value}] "}" ";"
 abbrev pub ListedRest : Name → ArraySize → List Token → List Token → Shared → Type 0

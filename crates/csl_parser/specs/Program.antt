@@ -35,7 +35,8 @@ ParamRest t = Then NameTok (λ name. Ret (param_of t name))
 
 -- behind "(" of a function: [param {"," param}] ")" block
 abbrev pub ParamsRest : Gives → Name → List Token → List Token → Function → Type 0
-ParamsRest g name = Then (ListUntil (kind.Mark mark.CloseParen) SpellsParam) (λ params. Then SpellsBlock (λ body. Ret (function_of g name params body)))
+ParamsRest g name = Then (ListUntil (kind.Mark mark.CloseParen) SpellsParam)
+    (λ params. Then SpellsBlock (λ body. Ret (function_of g name params body)))
 
 -- behind the word for what a function gives: NAME "(" and so on
 abbrev pub FunctionRest : Gives → List Token → List Token → Function → Type 0

@@ -23,7 +23,8 @@ use std::alloc::Global;
 pub fn parse(alloc: Global, tokens: &[Token]) -> Result<Program, ParseError>
     requires { SomeText tokens.now }
     ensures spelled { IfOk result (λ p. IsFlat tokens.now × SpellsProgram tokens.now p) }
-    ensures only { (p : Program) → IsFlat tokens.now → SpellsProgram tokens.now p → MatchResult result (λ found. found ≡ p) (λ e. e ≡ error.NoMemory) }
+    ensures only { (p : Program) → IsFlat tokens.now → SpellsProgram tokens.now p
+        → MatchResult result (λ found. found ≡ p) (λ e. e ≡ error.NoMemory) }
     ensures too_deep { (at : ℕ) → result ≡ Err (error.TooDeep at) → IsTooDeep tokens.now at }
     ensures unexpected { (at : ℕ) → result ≡ Err (error.Unexpected at) → IsFlat tokens.now × IsUnexpected tokens.now at }
 {

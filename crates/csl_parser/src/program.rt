@@ -188,7 +188,8 @@ fn type_of(token: &Token) -> Option<Ty>
 
 /// What a function gives that begins with a token.
 fn result_type(token: &Token) -> Option<Gives>
-    ensures { MatchOption result ((g : Gives) → token.now.kind ≢ kind.Word (result_word g)) (λ g. token.now.kind ≡ kind.Word (result_word g)) }
+    ensures { MatchOption result ((g : Gives) → token.now.kind ≢ kind.Word (result_word g))
+        (λ g. token.now.kind ≡ kind.Word (result_word g)) }
 {
     match token.kind {
         TokenKind::Word(Keyword::Void) => Some(Gives::Nothing),

@@ -15,7 +15,8 @@ use Rattle.csl_tree.specs.declared.program.Arm.{Arm, out-Arm, out-roll-Arm, is-A
 use Rattle.csl_tree.specs.declared.program.RoutineBlock.{RoutineBlock, roll-RoutineBlock, out-RoutineBlock, out-roll-RoutineBlock, is-RoutineBlock'}
 use Rattle.csl_tree.specs.declared.program.Form.{more_of-Arm, more_of-RoutineBlock}
 use Rattle.csl_tree.specs.declared.program.Form.TheVariants as form
-use Rattle.csl_tree.specs.declared.program.Form.TheBlock.{shape-the_row-Stmt-1, hidden-the_row-Stmt-1, shape-the_row-Stmt-2, hidden-the_row-Stmt-2, shape-the_row-Arm-0, hidden-the_row-Arm-0, shape-the_row-RoutineBlock-3, hidden-the_row-RoutineBlock-3}
+use Rattle.csl_tree.specs.declared.program.Form.TheBlock.{shape-the_row-Stmt-1, hidden-the_row-Stmt-1, shape-the_row-Stmt-2, hidden-the_row-Stmt-2, shape-the_row-Arm-0, hidden-the_row-Arm-0}
+use Rattle.csl_tree.specs.declared.program.Form.TheBlock.{shape-the_row-RoutineBlock-3, hidden-the_row-RoutineBlock-3}
 use Rattle.csl_grammar.specs.Expressions.{expr, binary, place, call}
 use Rattle.csl_grammar.specs.Programs.{arm}
 use Rattle.csl_print.specs.Bare.{bare_name, bare_place, bare_call, bare_row, bare_expr, bare_form, bare_statements, bare_arms, bare_routines, bare_stmt}
@@ -71,7 +72,8 @@ block_is body = ap (λ r. form.Block r) (statements_is body)
 pub while_is : (test : Expr) (body : List Stmt) → bare_form (form.While test body) ≡ form.While (bare_expr test) (map bare_stmt body)
 while_is test body = ap (λ r. form.While (bare_expr test) r) (statements_is body)
 
-pub for_is : (first : Stmt) (test : Expr) (next : Stmt) (body : List Stmt) → bare_form (form.For first test next body) ≡ form.For (bare_stmt first) (bare_expr test) (bare_stmt next) (map bare_stmt body)
+pub for_is : (first : Stmt) (test : Expr) (next : Stmt) (body : List Stmt) → bare_form (form.For first test next body) ≡ form.For (bare_stmt first) (bare_expr test) (bare_stmt next)
+    (map bare_stmt body)
 unfolding shape-the_row-Stmt-2 hidden-the_row-Stmt-2 hidden
 for_is first test next body = ap (λ r. form.For (bare_stmt first) (bare_expr test) (bare_stmt next) r) (statements_is body)
 
@@ -95,7 +97,8 @@ if_is arms (Some body) = λ i. form.If (arms_is arms i) (Some (statements_is bod
 abbrev pub bare_routine : RoutineBlock → RoutineBlock
 bare_routine r = roll-RoutineBlock (record { at = 0; width = bare_expr (out-RoutineBlock r).width; width_name = bare_name (out-RoutineBlock r).width_name; id_name = bare_name (out-RoutineBlock r).id_name; body = map bare_stmt (out-RoutineBlock r).body })
 
-pub routine_is : (at : ℕ) (width : Expr) (w i : Name) (body : List Stmt) → bare_routine (roll-RoutineBlock (record { at = at; width = width; width_name = w; id_name = i; body = body })) ≡ roll-RoutineBlock (record { at = 0; width = bare_expr width; width_name = bare_name w; id_name = bare_name i; body = map bare_stmt body })
+pub routine_is : (at : ℕ) (width : Expr) (w i : Name) (body : List Stmt) → bare_routine (roll-RoutineBlock (record { at = at; width = width; width_name = w; id_name = i; body = body })) ≡
+    roll-RoutineBlock (record { at = 0; width = bare_expr width; width_name = bare_name w; id_name = bare_name i; body = map bare_stmt body })
 routine_is at width w i body =
     ap (λ r. roll-RoutineBlock (record { at = 0; width = bare_expr r.width; width_name = bare_name r.width_name; id_name = bare_name r.id_name; body = map bare_stmt r.body }))
     (out-roll-RoutineBlock (record { at = at; width = width; width_name = w; id_name = i; body = body }))

@@ -31,7 +31,8 @@ spells_from text p s =
     finds_laid [] (tokens_of p) (all_fit (tokens_of p) n.tokens n.are good' (reduced_ended n.reduced (list_ended text s.tokens s.read))) 0 in
     let f : ℕ → ℕ = place_of n.tokens found.tokens in
     let by_kinds : List TokenKind → Type 0 = λ x. ArePlaced x found.tokens in
-    let same : all_moved f n.tokens ≡ found.tokens = moved_all n.tokens found.tokens (subst by_kinds (sym n.are) found.placed) good' (reduced_ascends n.reduced 0 (places_ascend text s.tokens s.read)) in
+    let same : all_moved f n.tokens ≡ found.tokens = moved_all n.tokens found.tokens (subst by_kinds (sym n.are) found.placed) good'
+    (reduced_ascends n.reduced 0 (places_ascend text s.tokens s.read)) in
     let m : MovedProgram f n.tokens p = move_program f n.spelled in
     let flat : IsFlat (all_moved f n.tokens) = flat_moved f n.tokens outermost (reduced_flat n.reduced outermost outermost (record { level = omega arith; opened = tt }) s.flat) in
     let spelling : List Token → Type 0 = λ x. SpellsProgram x m.tree in

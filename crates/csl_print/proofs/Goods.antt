@@ -5,7 +5,8 @@ use Rattle.csl_tree.specs.declared.token.Token.{Token}
 use Rattle.csl_tree.specs.declared.token.TokenKind.{TokenKind}
 use Rattle.csl_tree.specs.declared.token.TokenKind.TheVariants as kind
 use Rattle.csl_lexer.specs.declared.LexError.{LexError}
-use Rattle.csl_lexer.specs.Tokens.{IsLetter, IsNameByte, IsInText, Item, Run, Quoted, IsItem, blank, line, block, run, digits, quoted, sign, keyword, name, IsToken, run_token, number_token, text_token, mark_token, Reads, at_end, gap, token, fault_here, IsTokenList}
+use Rattle.csl_lexer.specs.Tokens.{IsLetter, IsNameByte, IsInText, Item, Run, Quoted, IsItem, blank, line, block, run, digits, quoted, sign, keyword, name, IsToken, run_token, number_token}
+use Rattle.csl_lexer.specs.Tokens.{text_token, mark_token, Reads, at_end, gap, token, fault_here, IsTokenList}
 use Rattle.csl_lexer.specs.Laws.{EndsAt}
 use Rattle.csl_grammar.specs.Stops.{IsEnded}
 use Rattle.csl_lexer.proofs.Shape.{lists_end}

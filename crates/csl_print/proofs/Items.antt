@@ -51,7 +51,8 @@ module _ (x : ℕ) (tail : List ℕ) (b : ℕ) (rest : List ℕ) (h : IsBlank b)
   mark_bound : (tail ≡ []) ⊎ ((y : ℕ) × (tail ≡ y ∷ []) × (33 ≤ y) × (x ≢ 47)) → (m' : Mark) (behind : List ℕ) → x ∷ (tail ++ b ∷ rest) ≡ spelled m' ++ behind → length (spelled m') ≤ suc (length tail)
   mark_bound shape m' behind e = by shape (mark_second m')
     where
-      by : (tail ≡ []) ⊎ ((y : ℕ) × (tail ≡ y ∷ []) × (33 ≤ y) × (x ≢ 47)) → (x' : ℕ) × (tail' : List ℕ) × (spelled m' ≡ x' ∷ tail') × ((tail' ≡ []) ⊎ ((y : ℕ) × (tail' ≡ y ∷ []) × (33 ≤ y) × (x' ≢ 47))) → length (spelled m') ≤ suc (length tail)
+      by : (tail ≡ []) ⊎ ((y : ℕ) × (tail ≡ y ∷ []) × (33 ≤ y) × (x ≢ 47)) → (x' : ℕ) × (tail' : List ℕ) × (spelled m' ≡ x' ∷ tail')
+          × ((tail' ≡ []) ⊎ ((y : ℕ) × (tail' ≡ y ∷ []) × (33 ≤ y) × (x' ≢ 47))) → length (spelled m') ≤ suc (length tail)
       by s (x', tail', is, inl none) = omega (arith, ap (λ (z : List ℕ). length z) is, ap (λ (z : List ℕ). length z) none)
       by (inr (y, two, high, low)) (x', tail', is, inr (y', two', high', low')) = omega (arith, ap (λ (z : List ℕ). length z) is, ap (λ (z : List ℕ). length z) two', ap (λ (z : List ℕ). length z) two)
       by (inl none) (x', tail', is, inr (y', two', high', low')) =

@@ -30,7 +30,8 @@ module _ {T : Type 0} (between : List TokenKind) (tokens : T → List TokenKind)
       ∙ ap (λ xs. adds_all old (parted between tokens xs)) (sym is)
 
   -- one further part
-  pub list_goes_on : (old middle new whole : Laid) (xs : List T) (i : ℕ) (x : T) → drop i xs ≡ x ∷ drop (i + 1) xs → middle ≡ adds_all old between → new ≡ adds_all middle (tokens x) → adds_all old (further between tokens (drop i xs)) ≡ whole → adds_all new (further between tokens (drop (i + 1) xs)) ≡ whole
+  pub list_goes_on : (old middle new whole : Laid) (xs : List T) (i : ℕ) (x : T) → drop i xs ≡ x ∷ drop (i + 1) xs → middle ≡ adds_all old between → new ≡ adds_all middle (tokens x)
+      → adds_all old (further between tokens (drop i xs)) ≡ whole → adds_all new (further between tokens (drop (i + 1) xs)) ≡ whole
   list_goes_on old middle new whole xs i x is one two before =
       ap (λ l. adds_all l (further between tokens (drop (i + 1) xs))) (also old middle new between (tokens x) one two)
       ∙ sym (fold-append adds old (between ++ tokens x) (further between tokens (drop (i + 1) xs)))
@@ -43,7 +44,8 @@ module _ {T : Type 0} (between : List TokenKind) (tokens : T → List TokenKind)
 
 module _ {T : Type 0} (tokens : T → List TokenKind) where
   -- one part of several
-  pub each_goes_on : (old new whole : Laid) (xs : List T) (i : ℕ) (x : T) → drop i xs ≡ x ∷ drop (i + 1) xs → new ≡ adds_all old (tokens x) → adds_all old (each tokens (drop i xs)) ≡ whole → adds_all new (each tokens (drop (i + 1) xs)) ≡ whole
+  pub each_goes_on : (old new whole : Laid) (xs : List T) (i : ℕ) (x : T) → drop i xs ≡ x ∷ drop (i + 1) xs → new ≡ adds_all old (tokens x) → adds_all old (each tokens (drop i xs)) ≡ whole
+      → adds_all new (each tokens (drop (i + 1) xs)) ≡ whole
   each_goes_on old new whole xs i x is added before =
       ap (λ l. adds_all l (each tokens (drop (i + 1) xs))) added
       ∙ sym (fold-append adds old (tokens x) (each tokens (drop (i + 1) xs)))

@@ -30,7 +30,8 @@ leads_as {ts = ts} {rest = rest} e l = let P : List TokenKind → Type 0 = λ k.
 pub data Reduced : List Token → List Token → Type 0 where
   none : Reduced [] []
   keeps : (t : Token) {ts ts' : List Token} → Reduced ts ts' → Reduced (t ∷ ts) (t ∷ ts')
-  drops : (sign t : Token) {n : ℤ} {ts ts' : List Token} → sign.kind ≡ kind.Mark Minus → t.kind ≡ kind.Number n → Reduced ts ts' → Reduced (sign ∷ t ∷ ts) (record { at = sign.at; kind = t.kind } ∷ ts')
+  drops : (sign t : Token) {n : ℤ} {ts ts' : List Token} → sign.kind ≡ kind.Mark Minus → t.kind ≡ kind.Number n → Reduced ts ts'
+      → Reduced (sign ∷ t ∷ ts) (record { at = sign.at; kind = t.kind } ∷ ts')
 
 -- tokens that spell the same tree, without the minus signs that no tree has
 pub record Normal {X : Type 0} (spells : List Token → List Token → X → Type 0) (ts rest : List Token) (x : X) (ks : List TokenKind) : Type 0 where

@@ -17,9 +17,13 @@ use Rattle.csl_tree.specs.declared.program.Stmt.{Stmt}
 use Rattle.csl_tree.specs.declared.program.Form.TheVariants as form
 use Rattle.csl_grammar.specs.Expressions as grammar
 use Rattle.csl_grammar.specs.Expressions.{SpellsExpr, chain, prefixed, number, truth, named, paren, SpellsChain, ends, SpellsArguments, SpellsMore, expr, binary, place, call, whole}
-use Rattle.csl_grammar.specs.Programs.{stmt, arm, SpellsPlace, bare, indexed, SpellsCall, called, SpellsDecl, declare, SpellsChange, set, add_to, SpellsItem, text, value, Each, stop, again, MoreOf, no_more, more, ListOf, nothing, something, SpellsStmt, declared, changed, calls, block, if_else, while_loop, for_loop, break_out, goes_on, returns, returns_value, asserts, prints, parallel, SpellsStart, declares, changes, SpellsBlock, braces, SpellsStmts, none, one_more, SpellsArm, tested, SpellsElse, no_else, else_if, else_block, SpellsRoutine, routine, SpellsRoutines, no_routine, one_routine}
+use Rattle.csl_grammar.specs.Programs.{stmt, arm, SpellsPlace, bare, indexed, SpellsCall, called, SpellsDecl, declare, SpellsChange, set, add_to, SpellsItem, text, value, Each, stop, again, MoreOf}
+use Rattle.csl_grammar.specs.Programs.{no_more, more, ListOf, nothing, something, SpellsStmt, declared, changed, calls, block, if_else, while_loop, for_loop, break_out, goes_on, returns}
+use Rattle.csl_grammar.specs.Programs.{returns_value, asserts, prints, parallel, SpellsStart, declares, changes, SpellsBlock, braces, SpellsStmts, none, one_more, SpellsArm, tested, SpellsElse}
+use Rattle.csl_grammar.specs.Programs.{no_else, else_if, else_block, SpellsRoutine, routine, SpellsRoutines, no_routine, one_routine}
 use Rattle.csl_print.specs.Bare.{bare_name, bare_place, bare_call, bare_expr, bare_item, bare_stmt}
-use Rattle.csl_print.proofs.Bares.{same_unary, same_paren, same_binary, at_place, same_name, same_element, same_call, block_is, while_is, for_is, bare_arm, arm_is, if_is, bare_routine, routine_is, par_is}
+use Rattle.csl_print.proofs.Bares.{same_unary, same_paren, same_binary, at_place, same_name, same_element, same_call, block_is, while_is, for_is, bare_arm, arm_is, if_is, bare_routine, routine_is}
+use Rattle.csl_print.proofs.Bares.{par_is}
 
 -- ---- tokens at other places
 
@@ -77,7 +81,8 @@ module _ (f : ℕ → ℕ) where
         let m : Moved f _ bare_expr _ _ _ = move_expr d in
         record { tree = expr (f opening.at) (node.Paren m.tree); spelled = paren (kept s) m.spelled (kept c); same = same_paren (f opening.at) opening.at m.tree e m.same }
 
-    move_chain : {level : ℕ} {ts rest : List Token} {left e : Expr} → SpellsChain level left ts rest e → (left' : Expr) → bare_expr left' ≡ bare_expr left → Moved f (SpellsChain level left') bare_expr ts rest e
+    move_chain : {level : ℕ} {ts rest : List Token} {left e : Expr} → SpellsChain level left ts rest e → (left' : Expr) → bare_expr left' ≡ bare_expr left
+        → Moved f (SpellsChain level left') bare_expr ts rest e
     move_chain ends left' h = record { tree = left'; spelled = ends; same = h }
     move_chain (grammar.goes_on {op = op} {left = left} {right = right} l s d c) left' h =
         let m : Moved f _ bare_expr _ _ _ = move_expr d in

@@ -8,7 +8,8 @@ use Rattle.csl_tree.specs.declared.program.Shared.{Shared}
 use Rattle.csl_tree.specs.declared.program.Param.{Param}
 use Rattle.csl_tree.specs.declared.program.Function.{Function}
 use Rattle.csl_tree.specs.declared.program.Program.{Program}
-use Rattle.csl_grammar.specs.Programs.{SpellsValue, plain, minus, SpellsInitial, unlisted, listed, SpellsShared, scalar, array, tally, SpellsParam, param, SpellsFunction, function, SpellsProgram, program}
+use Rattle.csl_grammar.specs.Programs.{SpellsValue, plain, minus, SpellsInitial, unlisted, listed, SpellsShared, scalar, array, tally, SpellsParam, param, SpellsFunction, function, SpellsProgram}
+use Rattle.csl_grammar.specs.Programs.{program}
 use Rattle.csl_print.specs.Bare.{bare_name, bare_stmt, bare_value, bare_shared, bare_param, bare_function, bare}
 use Rattle.csl_print.proofs.Moves.{moved_name, all_moved, Moved, kept, move_each, move_list, move_block}
 

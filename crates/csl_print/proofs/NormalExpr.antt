@@ -5,7 +5,8 @@ use Rattle.csl_tree.specs.declared.token.TokenKind.{TokenKind}
 use Rattle.csl_tree.specs.declared.token.Mark.TheVariants.{Comma}
 use Rattle.csl_tree.specs.declared.program.BinaryOp.{BinaryOp}
 use Rattle.csl_tree.specs.declared.program.Expr.{Expr}
-use Rattle.csl_grammar.specs.Expressions.{SpellsExpr, chain, prefixed, number, truth, named, indexed, called, paren, SpellsChain, ends, goes_on, SpellsArguments, nothing, something, SpellsMore, no_more, more, binary, mark_of}
+use Rattle.csl_grammar.specs.Expressions.{SpellsExpr, chain, prefixed, number, truth, named, indexed, called, paren, SpellsChain, ends, goes_on, SpellsArguments, nothing, something, SpellsMore}
+use Rattle.csl_grammar.specs.Expressions.{no_more, more, binary, mark_of}
 use Rattle.csl_print.specs.TreeTokens.{mark, expr_tokens, separated, further}
 use Rattle.csl_print.proofs.Leads.{leads_none, leads_one, leads_then, leads_as, Reduced, keeps, Normal}
 use Rattle.csl_print.proofs.Trees.{tokens_unary, tokens_binary, tokens_paren, place_name, place_element, call_is}
@@ -16,7 +17,8 @@ pub record Chained (level : ℕ) (ts rest : List Token) (left e : Expr) : Type 0
   pub is : expr_tokens e ≡ expr_tokens left ++ kinds
   pub normal : Normal (SpellsChain level left) ts rest e kinds
 
-longer : (op : BinaryOp) (left right e : Expr) (ks : List TokenKind) → expr_tokens e ≡ expr_tokens (binary op left right) ++ ks → expr_tokens e ≡ expr_tokens left ++ (mark (mark_of op) ++ expr_tokens right ++ ks)
+longer : (op : BinaryOp) (left right e : Expr) (ks : List TokenKind) → expr_tokens e ≡ expr_tokens (binary op left right) ++ ks
+    → expr_tokens e ≡ expr_tokens left ++ (mark (mark_of op) ++ expr_tokens right ++ ks)
 longer op left right e ks is = is ∙ ap (λ x. x ++ ks) (tokens_binary _ op left right refl) ∙ simp append_assoc
 
 append_none : {X : Type 0} (xs : List X) → xs ≡ xs ++ []
@@ -56,7 +58,8 @@ mutual
         normal = record { tokens = sign ∷ n.tokens; reduced = keeps sign n.reduced; spelled = goes_on l s n.spelled behind.normal.spelled; leads = leads_then (leads_then (leads_one s) n.leads) behind.normal.leads };
       }
 
-  pub normal_arguments : {ts rest : List Token} {es : List Expr} → SpellsArguments ts rest es → (rest' : List Token) → Reduced rest rest' → Normal SpellsArguments ts rest' es (separated expr_tokens es)
+  pub normal_arguments : {ts rest : List Token} {es : List Expr} → SpellsArguments ts rest es → (rest' : List Token) → Reduced rest rest'
+      → Normal SpellsArguments ts rest' es (separated expr_tokens es)
   normal_arguments nothing rest' r = record { tokens = rest'; reduced = r; spelled = nothing; leads = leads_none rest' }
   normal_arguments (something d m) rest' r =
       let others : Normal _ _ rest' _ _ = normal_more m rest' r in

@@ -9,7 +9,8 @@ use Rattle.csl_tree.specs.declared.program.Shared.{Shared}
 use Rattle.csl_tree.specs.declared.program.Param.{Param}
 use Rattle.csl_tree.specs.declared.program.Function.{Function}
 use Rattle.csl_tree.specs.declared.program.Program.{Program}
-use Rattle.csl_grammar.specs.Programs.{MoreOf, no_more, more, ListOf, nothing, something, Each, stop, again, SpellsValue, plain, minus, SpellsInitial, unlisted, listed, SpellsShared, scalar, array, tally, SpellsParam, param, SpellsFunction, function, SpellsProgram, program}
+use Rattle.csl_grammar.specs.Programs.{MoreOf, no_more, more, ListOf, nothing, something, Each, stop, again, SpellsValue, plain, minus, SpellsInitial, unlisted, listed, SpellsShared, scalar, array}
+use Rattle.csl_grammar.specs.Programs.{tally, SpellsParam, param, SpellsFunction, function, SpellsProgram, program}
 use Rattle.csl_print.specs.TreeTokens.{mark, number, each, further, separated, signed_tokens, value_tokens, initial_tokens, shared_tokens, param_tokens, function_tokens, tokens_of}
 use Rattle.csl_print.proofs.Leads.{kinds, Leads, leads_none, leads_one, leads_then, leads_as, Reduced, none, keeps, drops, Normal}
 use Rattle.csl_print.proofs.NormalStmt.{normal_each, normal_list, normal_block}
@@ -52,14 +53,16 @@ value_whole : {ts rest : List Token} {v : Valued} → SpellsValue ts rest v → 
 value_whole (plain k) whole = whole.1
 value_whole (minus m k) whole = whole.1.1
 
-normal_more_values : {ts rest : List Token} {vs : List Valued} → MoreOf SpellsValue ts rest vs → AreWhole ts → (rest' : List Token) → Reduced rest rest' → Normal (MoreOf SpellsValue) ts rest' vs (further (mark Comma) value_tokens vs)
+normal_more_values : {ts rest : List Token} {vs : List Valued} → MoreOf SpellsValue ts rest vs → AreWhole ts → (rest' : List Token) → Reduced rest rest'
+    → Normal (MoreOf SpellsValue) ts rest' vs (further (mark Comma) value_tokens vs)
 normal_more_values no_more whole rest' r = record { tokens = rest'; reduced = r; spelled = no_more; leads = leads_none rest' }
 normal_more_values (more {comma = comma} k d m) whole rest' r =
     let others : Normal _ _ rest' _ _ = normal_more_values m (value_whole d whole.1) rest' r in
     let n : Normal _ _ others.tokens _ _ = normal_value d whole.1 others.tokens others.reduced in
     record { tokens = comma ∷ n.tokens; reduced = keeps comma n.reduced; spelled = more k n.spelled others.spelled; leads = leads_then (leads_then (leads_one k) n.leads) others.leads }
 
-normal_values : {ts rest : List Token} {vs : List Valued} → ListOf SpellsValue ts rest vs → AreWhole ts → (rest' : List Token) → Reduced rest rest' → Normal (ListOf SpellsValue) ts rest' vs (separated value_tokens vs)
+normal_values : {ts rest : List Token} {vs : List Valued} → ListOf SpellsValue ts rest vs → AreWhole ts → (rest' : List Token) → Reduced rest rest'
+    → Normal (ListOf SpellsValue) ts rest' vs (separated value_tokens vs)
 normal_values nothing whole rest' r = record { tokens = rest'; reduced = r; spelled = nothing; leads = leads_none rest' }
 normal_values (something d m) whole rest' r =
     let others : Normal _ _ rest' _ _ = normal_more_values m (value_whole d whole) rest' r in
@@ -80,7 +83,8 @@ record NormalInitial (ts rest : List Token) (stated : Bool) (vs : List Valued) :
   spelled : SpellsInitial tokens rest stated vs
   leads : Leads tokens rest (initial_tokens stated vs)
 
-normal_initial : {ts rest : List Token} {stated : Bool} {vs : List Valued} → SpellsInitial ts rest stated vs → AreWhole ts → (rest' : List Token) → Reduced rest rest' → NormalInitial ts rest' stated vs
+normal_initial : {ts rest : List Token} {stated : Bool} {vs : List Valued} → SpellsInitial ts rest stated vs → AreWhole ts → (rest' : List Token) → Reduced rest rest'
+    → NormalInitial ts rest' stated vs
 normal_initial unlisted whole rest' r = record { tokens = rest'; reduced = r; spelled = unlisted; leads = leads_none rest' }
 normal_initial (listed {equals = equals} {opening = opening} {closing = closing} a o d c) whole rest' r =
     let n : Normal _ _ (closing ∷ rest') _ _ = normal_values d whole.1.1 (closing ∷ rest') (keeps closing r) in
@@ -111,7 +115,8 @@ shared_whole (scalar w n s) whole = whole.1.1.1
 shared_whole (array w n o k c d s) whole = (initial_whole d whole.1.1.1.1.1).1
 shared_whole (tally w i n s) whole = whole.1.1.1.1
 
-normal_shareds : {ts rest : List Token} {all : List Shared} → Each SpellsShared ts rest all → AreWhole ts → (rest' : List Token) → Reduced rest rest' → Normal (Each SpellsShared) ts rest' all (each shared_tokens all)
+normal_shareds : {ts rest : List Token} {all : List Shared} → Each SpellsShared ts rest all → AreWhole ts → (rest' : List Token) → Reduced rest rest'
+    → Normal (Each SpellsShared) ts rest' all (each shared_tokens all)
 normal_shareds stop whole rest' r = record { tokens = rest'; reduced = r; spelled = stop; leads = leads_none rest' }
 normal_shareds (again d m) whole rest' r =
     let others : Normal _ _ rest' _ _ = normal_shareds m (shared_whole d whole) rest' r in
@@ -149,7 +154,8 @@ normal_program _ _ (program {first = first} {opening = opening} {closing = closi
     let bl : Normal _ _ (end ∷ []) _ _ = normal_block b (end ∷ []) (keeps end none) in
     let fn : Normal _ _ (main ∷ bl.tokens) _ _ = normal_each SpellsFunction function_tokens normal_function fs (main ∷ bl.tokens) (keeps main bl.reduced) in
     let sn : Normal _ _ (closing ∷ fn.tokens) _ _ = normal_shareds sh whole.1.1 (closing ∷ fn.tokens) (keeps closing fn.reduced) in
-    let all : Leads (first ∷ opening ∷ sn.tokens) (end ∷ []) _ = leads_then (leads_then (leads_then (leads_then (leads_one w) (leads_then (leads_then (leads_one o) sn.leads) (leads_one c))) fn.leads) (leads_one m)) bl.leads in
+    let all : Leads (first ∷ opening ∷ sn.tokens) (end ∷ []) _ = leads_then (leads_then (leads_then (leads_then (leads_one w) (leads_then (leads_then (leads_one o) sn.leads) (leads_one c))) fn.leads)
+    (leads_one m)) bl.leads in
     record {
       tokens = first ∷ opening ∷ sn.tokens;
       reduced = keeps first (keeps opening sn.reduced);

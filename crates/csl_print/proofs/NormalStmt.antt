@@ -9,7 +9,10 @@ use Rattle.csl_tree.specs.declared.program.Item.{Item}
 use Rattle.csl_tree.specs.declared.program.RoutineBlock.{RoutineBlock}
 use Rattle.csl_tree.specs.declared.program.Stmt.{Stmt}
 use Rattle.csl_tree.specs.declared.program.Form.TheVariants as form
-use Rattle.csl_grammar.specs.Programs.{IsWord, bare, indexed, called, SpellsDecl, declare, SpellsChange, set, add_to, SpellsItem, text, value, Each, stop, again, MoreOf, no_more, more, ListOf, nothing, something, SpellsStmt, declared, changed, calls, block, if_else, while_loop, for_loop, break_out, goes_on, returns, returns_value, asserts, prints, parallel, SpellsStart, declares, changes, SpellsBlock, braces, SpellsStmts, none, one_more, SpellsArm, tested, SpellsElse, no_else, else_if, else_block, SpellsRoutine, routine, SpellsRoutines, no_routine, one_routine}
+use Rattle.csl_grammar.specs.Programs.{IsWord, bare, indexed, called, SpellsDecl, declare, SpellsChange, set, add_to, SpellsItem, text, value, Each, stop, again, MoreOf, no_more, more, ListOf}
+use Rattle.csl_grammar.specs.Programs.{nothing, something, SpellsStmt, declared, changed, calls, block, if_else, while_loop, for_loop, break_out, goes_on, returns, returns_value, asserts, prints}
+use Rattle.csl_grammar.specs.Programs.{parallel, SpellsStart, declares, changes, SpellsBlock, braces, SpellsStmts, none, one_more, SpellsArm, tested, SpellsElse, no_else, else_if, else_block}
+use Rattle.csl_grammar.specs.Programs.{SpellsRoutine, routine, SpellsRoutines, no_routine, one_routine}
 use Rattle.csl_print.specs.TreeTokens.{mark, word, each, further, separated, item_tokens, form_tokens, statement_tokens, body_tokens, arm_tokens, routine_tokens}
 use Rattle.csl_print.proofs.Leads.{Leads, leads_none, leads_one, leads_then, leads_as, Reduced, keeps, Normal}
 use Rattle.csl_print.proofs.NormalExpr.{normal_expr, normal_arguments}
@@ -127,7 +130,8 @@ mutual
         reduced = keeps first (keeps opening sn.reduced);
         spelled = for_loop w o sn.spelled m1 te.spelled m2 nx.spelled c bl.spelled;
         leads = leads_as (sym (append_none (form_tokens (form.For start test next body)) ∙ tokens_for _ start test next body refl))
-            (leads_then (leads_then (leads_one w) (leads_then (leads_then (leads_one o) (leads_then (leads_then (leads_then (leads_then sn.leads (leads_one m1)) te.leads) (leads_one m2)) nx.leads)) (leads_one c))) bl.leads);
+            (leads_then (leads_then (leads_one w) (leads_then (leads_then (leads_one o) (leads_then (leads_then (leads_then (leads_then sn.leads (leads_one m1)) te.leads) (leads_one m2)) nx.leads))
+            (leads_one c))) bl.leads);
       }
   normal_stmt (break_out {first = first} {semicolon = semicolon} w s) rest' r = record { tokens = first ∷ semicolon ∷ rest'; reduced = keeps first (keeps semicolon r); spelled = break_out w s; leads = leads_then (leads_one w) (leads_one s) }
   normal_stmt (goes_on {first = first} {semicolon = semicolon} w s) rest' r = record { tokens = first ∷ semicolon ∷ rest'; reduced = keeps first (keeps semicolon r); spelled = goes_on w s; leads = leads_then (leads_one w) (leads_one s) }
@@ -175,10 +179,12 @@ mutual
       record { tokens = one ∷ bl.tokens; reduced = keeps one bl.reduced; spelled = else_block w bl.spelled; leads = leads_then (leads_one w) bl.leads }
 
   normal_routine : {ts rest : List Token} {b : RoutineBlock} → SpellsRoutine ts rest b → (rest' : List Token) → Reduced rest rest' → Normal SpellsRoutine ts rest' b (routine_tokens b)
-  normal_routine (routine {first = first} {bracket = bracket} {closing = closing} {opening = opening} {int1 = int1} {name1 = name1} {comma = comma} {int2 = int2} {name2 = name2} {end = end} {width = width} {w = w} {i = i} {body = body} f b d c o i1 n1 co i2 n2 e bk) rest' r =
+  normal_routine (routine {first = first} {bracket = bracket} {closing = closing} {opening = opening} {int1 = int1} {name1 = name1} {comma = comma} {int2 = int2} {name2 = name2} {end = end}
+      {width = width} {w = w} {i = i} {body = body} f b d c o i1 n1 co i2 n2 e bk) rest' r =
       let bl : Normal _ _ rest' _ _ = normal_block bk rest' r in
       let t : Normal _ _ (closing ∷ opening ∷ int1 ∷ name1 ∷ comma ∷ int2 ∷ name2 ∷ end ∷ bl.tokens) _ _ =
-      normal_expr d (closing ∷ opening ∷ int1 ∷ name1 ∷ comma ∷ int2 ∷ name2 ∷ end ∷ bl.tokens) (keeps closing (keeps opening (keeps int1 (keeps name1 (keeps comma (keeps int2 (keeps name2 (keeps end bl.reduced)))))))) in
+      normal_expr d (closing ∷ opening ∷ int1 ∷ name1 ∷ comma ∷ int2 ∷ name2 ∷ end ∷ bl.tokens)
+      (keeps closing (keeps opening (keeps int1 (keeps name1 (keeps comma (keeps int2 (keeps name2 (keeps end bl.reduced)))))))) in
       record {
         tokens = first ∷ bracket ∷ t.tokens;
         reduced = keeps first (keeps bracket t.reduced);

@@ -39,7 +39,8 @@ moved_from (t ∷ ts) (t' ∷ ts') place f placed good ascends agrees =
     let here : f t.at ≡ t'.at = agrees t.at ascends.0 ∙ ap (λ b. if b then t'.at else place_of ts ts' t.at) (nat_eq_same t.at) in
     let same_kind : moved_kind f t.kind ≡ t'.kind = moved_good f t.at t.kind good.0 ∙ ap (λ x. at_kind x t.kind) here ∙ sym placed.0 in
     let first : moved f t ≡ t' = λ i. record { at = here i; kind = same_kind i } in
-    let others : all_moved f ts ≡ ts' = moved_from ts ts' (t.at + 1) f placed.1 good.1 ascends.1 (λ n h. agrees n (omega (arith, ascends.0, h)) ∙ ap (λ b. if b then t'.at else place_of ts ts' n) (nat_eq_other n t.at (omega (arith, h)))) in
+    let others : all_moved f ts ≡ ts' = moved_from ts ts' (t.at + 1) f placed.1 good.1 ascends.1
+    (λ n h. agrees n (omega (arith, ascends.0, h)) ∙ ap (λ b. if b then t'.at else place_of ts ts' n) (nat_eq_other n t.at (omega (arith, h)))) in
     λ i. first i ∷ others i
 
 pub moved_all : (ts ts' : List Token) → ArePlaced (kinds ts) ts' → AllGood ts → AscendsFrom 0 ts → all_moved (place_of ts ts') ts ≡ ts'

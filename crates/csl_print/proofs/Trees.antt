@@ -16,12 +16,14 @@ use Rattle.csl_tree.specs.declared.program.Arm.{Arm, out-roll-Arm, out-Arm, is-A
 use Rattle.csl_tree.specs.declared.program.RoutineBlock.{RoutineBlock, roll-RoutineBlock, out-roll-RoutineBlock, out-RoutineBlock, is-RoutineBlock'}
 use Rattle.csl_tree.specs.declared.program.Form.{Form, more_of-Arm, more_of-RoutineBlock}
 use Rattle.csl_tree.specs.declared.program.Form.TheVariants as form
-use Rattle.csl_tree.specs.declared.program.Form.TheBlock.{shape-the_row-Stmt-1, hidden-the_row-Stmt-1, shape-the_row-Stmt-2, hidden-the_row-Stmt-2, shape-the_row-Arm-0, hidden-the_row-Arm-0, shape-the_row-RoutineBlock-3, hidden-the_row-RoutineBlock-3}
+use Rattle.csl_tree.specs.declared.program.Form.TheBlock.{shape-the_row-Stmt-1, hidden-the_row-Stmt-1, shape-the_row-Stmt-2, hidden-the_row-Stmt-2, shape-the_row-Arm-0, hidden-the_row-Arm-0}
+use Rattle.csl_tree.specs.declared.program.Form.TheBlock.{shape-the_row-RoutineBlock-3, hidden-the_row-RoutineBlock-3}
 use Rattle.csl_tree.specs.declared.token.Keyword.TheVariants as keyword
 use Rattle.csl_tree.specs.declared.name.Name.{Name}
 use Rattle.csl_grammar.specs.Expressions.{mark_of, prefix_mark, place, call}
 use Rattle.csl_grammar.specs.Programs.{arm}
-use Rattle.csl_print.specs.TreeTokens.{mark, named, in_parens, separated, further, node_tokens, expr_tokens, place_tokens, call_tokens, row_tokens, further_tokens, word, each, parted, in_braces, form_tokens, statements_tokens, statement_tokens, body_tokens, arm_of, arm_tokens, arms_tokens, further_arms_tokens, routine_of, routine_tokens, routines_tokens}
+use Rattle.csl_print.specs.TreeTokens.{mark, named, in_parens, separated, further, node_tokens, expr_tokens, place_tokens, call_tokens, row_tokens, further_tokens, word, each, parted, in_braces}
+use Rattle.csl_print.specs.TreeTokens.{form_tokens, statements_tokens, statement_tokens, body_tokens, arm_of, arm_tokens, arms_tokens, further_arms_tokens, routine_of, routine_tokens, routines_tokens}
 pub use Rattle.cal_terms.proofs.Lists.{append_none}
 
 pub tokens_unary : (n : Node) (op : UnaryOp) (a : Expr) → n ≡ node.Unary op a → node_tokens n ≡ mark (prefix_mark op) ++ expr_tokens a
@@ -100,7 +102,8 @@ tokens_if_some f arms last body e some =
     ap form_tokens e ∙ ap (λ l. form_tokens (form.If arms l)) some
     ∙ (λ i. arms_is arms i ++ (word keyword.Else ++ in_braces (statements_is body i)))
 
-routine_is : (r : RoutineBlock) → routine_of (out-RoutineBlock r).width (out-RoutineBlock r).width_name (out-RoutineBlock r).id_name (statements_tokens (hidden-the_row-Stmt-1 (out-RoutineBlock r).body)) ≡ routine_tokens r
+routine_is : (r : RoutineBlock) → routine_of (out-RoutineBlock r).width (out-RoutineBlock r).width_name (out-RoutineBlock r).id_name
+    (statements_tokens (hidden-the_row-Stmt-1 (out-RoutineBlock r).body)) ≡ routine_tokens r
 routine_is r = ap (λ x. routine_of (out-RoutineBlock r).width (out-RoutineBlock r).width_name (out-RoutineBlock r).id_name x) (statements_is (out-RoutineBlock r).body)
 
 routines_is : (blocks : List RoutineBlock) → routines_tokens (hidden-the_row-RoutineBlock-3 blocks) ≡ each routine_tokens blocks
@@ -130,8 +133,10 @@ call_is name args = ap (λ r. named name ++ in_parens r) (arguments_is args)
 pub arm_made : (test : Expr) (body : List Stmt) → arm_tokens (arm test body) ≡ arm_of test (each statement_tokens body)
 arm_made test body = ap (λ a. arm_of a.test (each statement_tokens a.body)) (out-roll-Arm (record { test = test; body = body }))
 
-pub routine_made : (at : ℕ) (width : Expr) (w i : Name) (body : List Stmt) → routine_tokens (roll-RoutineBlock (record { at = at; width = width; width_name = w; id_name = i; body = body })) ≡ routine_of width w i (each statement_tokens body)
-routine_made at width w i body = ap (λ r. routine_of r.width r.width_name r.id_name (each statement_tokens r.body)) (out-roll-RoutineBlock (record { at = at; width = width; width_name = w; id_name = i; body = body }))
+pub routine_made : (at : ℕ) (width : Expr) (w i : Name) (body : List Stmt) → routine_tokens (roll-RoutineBlock (record { at = at; width = width; width_name = w; id_name = i; body = body })) ≡
+    routine_of width w i (each statement_tokens body)
+routine_made at width w i body = ap (λ r. routine_of r.width r.width_name r.id_name (each statement_tokens r.body))
+    (out-roll-RoutineBlock (record { at = at; width = width; width_name = w; id_name = i; body = body }))
 
 -- an `if` with all its arms
 abbrev pub else_tokens : Option (List Stmt) → List TokenKind

@@ -58,7 +58,8 @@ grown_is text before k more =
     ap (λ g. text ++ g ++ bytes_of k ++ more) (gap_split before (set_in (turn_of k) (depth before)))
     ∙ simp append_assoc
 
-laid_from : (text : List ℕ) (before : List TokenKind) (k : TokenKind) (more : List TokenKind) → (adds_all (behind text before) (k ∷ more)).text ++ 10 ∷ [] ≡ text ++ gap_byte (gap_of before) ++ laid before (k ∷ more)
+laid_from : (text : List ℕ) (before : List TokenKind) (k : TokenKind) (more : List TokenKind)
+    → (adds_all (behind text before) (k ∷ more)).text ++ 10 ∷ [] ≡ text ++ gap_byte (gap_of before) ++ laid before (k ∷ more)
 unfolding behind
 laid_from text before k [] = ap (λ (l : Laid). l.text ++ 10 ∷ []) (one_more text before k) ∙ grown_is text before k (10 ∷ [])
 laid_from text before k (next ∷ more) =

@@ -1,5 +1,6 @@
 -- The reader finds in the canonical text the tokens that were written.
-use Rattle.std.proofs.Common.{◌≡◌, ◌<◌, ◌+◌, ◌*◌, ◌^◌, inl, inr, ℕ, zero, suc, ℤ, pos, negsuc, Bool, true, false, if◌then◌else◌, List, [], ◌∷◌, ◌++◌, Ok, length, refl, sym, ap, subst, arith, append_assoc}
+use Rattle.std.proofs.Common.{◌≡◌, ◌<◌, ◌+◌, ◌*◌, ◌^◌, inl, inr, ℕ, zero, suc, ℤ, pos, negsuc, Bool, true, false, if◌then◌else◌, List, [], ◌∷◌, ◌++◌, Ok, length, refl, sym, ap, subst, arith}
+use Rattle.std.proofs.Common.{append_assoc}
 use Rattle.std.specs.List.{AllByRecursion}
 use Rattle.std.specs.Prelude.{replicate}
 use Rattle.std.specs.Fmt.{decimal}
@@ -7,7 +8,8 @@ use Rattle.csl_tree.specs.declared.name.Name.{Name}
 use Rattle.csl_tree.specs.declared.token.Token.{Token}
 use Rattle.csl_tree.specs.declared.token.TokenKind.{TokenKind}
 use Rattle.csl_tree.specs.declared.token.TokenKind.TheVariants as kind
-use Rattle.csl_lexer.specs.Tokens.{IsBlank, IsInText, value_of, spelled, written, Item, Run, Digits, Quoted, Sign, Longest, keyword, name, IsToken, run_token, number_token, text_token, mark_token, Reads, at_end, gap, token}
+use Rattle.csl_lexer.specs.Tokens.{IsBlank, IsInText, value_of, spelled, written, Item, Run, Digits, Quoted, Sign, Longest, keyword, name, IsToken, run_token, number_token, text_token, mark_token}
+use Rattle.csl_lexer.specs.Tokens.{Reads, at_end, gap, token}
 use Rattle.csl_lexer.proofs.Items.{run_longest, digits_longest, blank_longest, quoted_longest}
 use Rattle.csl_print.specs.Canonical.{bytes_of, turn_of, set_in, depth, line_ends, byte_behind, line_begins, blanks, indentation, laid}
 use Rattle.csl_print.proofs.Bares.{at_place}
@@ -55,7 +57,8 @@ finds_blanks : (n : ℕ) (rest : List ℕ) (ks : List TokenKind) → Finds rest 
 finds_blanks zero rest ks behind = behind
 finds_blanks (suc n) rest ks behind = finds_blank 32 (replicate n 32 ++ rest) ks (inl refl) (finds_blanks n rest ks behind)
 
-finds_item : (bytes piece rest : List ℕ) (item : Item) (k : TokenKind) (ks : List TokenKind) → Longest bytes piece rest item → ((at : ℕ) → IsToken at item (at_kind at k)) → Finds rest ks → Finds bytes (k ∷ ks)
+finds_item : (bytes piece rest : List ℕ) (item : Item) (k : TokenKind) (ks : List TokenKind) → Longest bytes piece rest item → ((at : ℕ) → IsToken at item (at_kind at k)) → Finds rest ks
+    → Finds bytes (k ∷ ks)
 finds_item bytes piece rest item k ks longest is behind at =
     let found : Found (at + length piece) rest ks = behind (at + length piece) in
     record { tokens = record { at = at; kind = at_kind at k } ∷ found.tokens; reads = token longest (is at) found.reads; placed = (refl, found.placed) }
@@ -68,14 +71,16 @@ finds_as bytes bytes' ks e h = let P : List ℕ → Type 0 = λ x. Finds x ks in
 module _ (b : ℕ) (rest : List ℕ) (ks : List TokenKind) (h : IsBlank b) (behind : Finds (b ∷ rest) ks) where
   finds_run : (bytes : List ℕ) (k : TokenKind) → IsRun bytes → ((at : ℕ) → IsToken at (Run bytes) (at_kind at k)) → Finds (bytes ++ b ∷ rest) (k ∷ ks)
   finds_run bytes k r is =
-      let longest : Longest (r.first ∷ r.rest ++ b ∷ rest) (r.first ∷ r.rest) (b ∷ rest) (Run (r.first ∷ r.rest)) = run_longest r.first r.rest (b ∷ rest) r.letter r.all (blank_outside_names b rest h) in
+      let longest : Longest (r.first ∷ r.rest ++ b ∷ rest) (r.first ∷ r.rest) (b ∷ rest) (Run (r.first ∷ r.rest)) = run_longest r.first r.rest (b ∷ rest) r.letter r.all
+      (blank_outside_names b rest h) in
       let P : List ℕ → Type 0 = λ x. Longest (x ++ b ∷ rest) x (b ∷ rest) (Run x) in
       finds_item (bytes ++ b ∷ rest) bytes (b ∷ rest) (Run bytes) k ks (subst P (sym r.split) longest) is behind
 
   finds_number : (n : ℕ) → n < 2 ^ 63 → Finds (decimal n ++ b ∷ rest) (kind.Number (pos n) ∷ ks)
   finds_number n low =
       let d : IsDecimal n (decimal n) = decimal_is n (omega arith) in
-      let longest : Longest (d.first ∷ d.rest ++ b ∷ rest) (d.first ∷ d.rest) (b ∷ rest) (Digits (value_of (d.first ∷ d.rest))) = digits_longest d.first d.rest (b ∷ rest) d.digit d.all (blank_outside_numbers b rest h) in
+      let longest : Longest (d.first ∷ d.rest ++ b ∷ rest) (d.first ∷ d.rest) (b ∷ rest) (Digits (value_of (d.first ∷ d.rest))) = digits_longest d.first d.rest (b ∷ rest) d.digit d.all
+      (blank_outside_numbers b rest h) in
       let P : List ℕ → Type 0 = λ x. Longest (x ++ b ∷ rest) x (b ∷ rest) (Digits (value_of x)) in
       let Q : ℕ → Type 0 = λ x. Longest (decimal n ++ b ∷ rest) (decimal n) (b ∷ rest) (Digits x) in
       finds_item (decimal n ++ b ∷ rest) (decimal n) (b ∷ rest) (Digits n) (kind.Number (pos n)) ks (subst Q d.value (subst P (sym d.split) longest)) (λ at. number_token low) behind
@@ -121,11 +126,13 @@ finds_laid before [] fit = finds_end
 finds_laid before (k ∷ []) fit =
     let behind : Finds (10 ∷ []) (kind.End ∷ []) = finds_blank 10 [] (kind.End ∷ []) (inr (inr (inr refl))) finds_end in
     let one : Finds (bytes_of k ++ 10 ∷ []) (k ∷ kind.End ∷ []) = finds_token 10 [] (kind.End ∷ []) (inr (inr (inr refl))) behind k fit.0 in
-    finds_as (indentation before k ++ (bytes_of k ++ 10 ∷ [])) (laid before (k ∷ [])) (k ∷ kind.End ∷ []) (sym (append_assoc (indentation before k) (bytes_of k) (10 ∷ []))) (finds_indented before k (bytes_of k ++ 10 ∷ []) (k ∷ kind.End ∷ []) one)
+    finds_as (indentation before k ++ (bytes_of k ++ 10 ∷ [])) (laid before (k ∷ [])) (k ∷ kind.End ∷ []) (sym (append_assoc (indentation before k) (bytes_of k) (10 ∷ [])))
+    (finds_indented before k (bytes_of k ++ 10 ∷ []) (k ∷ kind.End ∷ []) one)
 finds_laid before (k ∷ next ∷ more) fit =
     let others : List TokenKind = next ∷ (more ++ kind.End ∷ []) in
     let rest : List ℕ = laid (k ∷ before) (next ∷ more) in
     let b : ℕ = byte_behind before k in
     let behind : Finds (b ∷ rest) others = finds_blank b rest others (byte_blank before k) (finds_laid (k ∷ before) (next ∷ more) fit.1) in
     let one : Finds (bytes_of k ++ b ∷ rest) (k ∷ others) = finds_token b rest others (byte_blank before k) behind k fit.0 in
-    finds_as (indentation before k ++ (bytes_of k ++ b ∷ rest)) (laid before (k ∷ next ∷ more)) (k ∷ others) (sym (append_assoc (indentation before k) (bytes_of k) (b ∷ rest))) (finds_indented before k (bytes_of k ++ b ∷ rest) (k ∷ others) one)
+    finds_as (indentation before k ++ (bytes_of k ++ b ∷ rest)) (laid before (k ∷ next ∷ more)) (k ∷ others) (sym (append_assoc (indentation before k) (bytes_of k) (b ∷ rest)))
+    (finds_indented before k (bytes_of k ++ b ∷ rest) (k ∷ others) one)

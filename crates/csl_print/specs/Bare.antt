@@ -19,7 +19,8 @@ use Rattle.csl_tree.specs.declared.program.Stmt.{Stmt}
 use Rattle.csl_tree.specs.declared.program.Arm.{Arm, Arm'}
 use Rattle.csl_tree.specs.declared.program.RoutineBlock.{RoutineBlock, RoutineBlock', roll-RoutineBlock}
 use Rattle.csl_tree.specs.declared.program.Form as tree_form
-use Rattle.csl_tree.specs.declared.program.Form.{Form, Row_of-Arm, end_of-Arm, more_of-Arm, Row_of-Stmt, end_of-Stmt, more_of-Stmt, Held-Form-If-1, Row_of-RoutineBlock, end_of-RoutineBlock, more_of-RoutineBlock}
+use Rattle.csl_tree.specs.declared.program.Form.{Form, Row_of-Arm, end_of-Arm, more_of-Arm, Row_of-Stmt, end_of-Stmt, more_of-Stmt}
+use Rattle.csl_tree.specs.declared.program.Form.{Held-Form-If-1, Row_of-RoutineBlock, end_of-RoutineBlock, more_of-RoutineBlock}
 use Rattle.csl_tree.specs.declared.program.Form.TheVariants as form
 use Rattle.csl_grammar.specs.Expressions.{expr, place, call}
 use Rattle.csl_grammar.specs.Programs.{stmt, arm}

@@ -58,20 +58,24 @@ lines (line ∷ rest) = line ++ 10 ∷ lines rest
 -- shared{int x;}main{x=1;print(x,"a b");}
 abbrev pub SevenLines : Type 0
 SevenLines =
-    canonical (program (scalar (codes "x") ∷ []) (stmt (form.Set (place (codes "x")) (whole 1)) ∷ stmt (form.Print (item.Value (var (codes "x")) ∷ item.Text (named (codes "a b")) ∷ [])) ∷ []))
-    ≡ lines (codes "shared {" ∷ codes "  int x ;" ∷ codes "}" ∷ codes "main {" ∷ codes "  x = 1 ;" ∷ codes "  print ( x , \"a b\" ) ;" ∷ codes "}" ∷ [])
+    canonical (program (scalar (codes "x") ∷ []) (stmt (form.Set (place (codes "x")) (whole 1)) ∷ stmt
+    (form.Print (item.Value (var (codes "x")) ∷ item.Text (named (codes "a b")) ∷ [])) ∷ []))
+    ≡ lines (codes "shared {" ∷ codes "  int x ;" ∷ codes "}" ∷ codes "main {" ∷ codes "  x = 1 ;" ∷ codes "  print ( x , \"a b\" ) ;" ∷
+    codes "}" ∷ [])
 
 -- shared{}main{if(true){}else if(false){}else{}}
 abbrev pub TenLines : Type 0
 TenLines =
     canonical (program [] (stmt (form.If (arm (expr (node.Truth true)) [] ∷ arm (expr (node.Truth false)) [] ∷ []) (Some [])) ∷ []))
-    ≡ lines (codes "shared {" ∷ codes "}" ∷ codes "main {" ∷ codes "  if ( true ) {" ∷ codes "  }" ∷ codes "  else if ( false ) {" ∷ codes "  }" ∷ codes "  else {" ∷ codes "  }" ∷ codes "}" ∷ [])
+    ≡ lines (codes "shared {" ∷ codes "}" ∷ codes "main {" ∷ codes "  if ( true ) {" ∷ codes "  }" ∷ codes "  else if ( false ) {" ∷ codes
+    "  }" ∷ codes "  else {" ∷ codes "  }" ∷ codes "}" ∷ [])
 
 -- shared{int a[2]={1,-5};int b[9]={};}main{}
 abbrev pub Listed : Type 0
 Listed =
     canonical (program (record (scalar (codes "a")) { size = Some (record { at = 0; number = pos 2 }); values = record { at = 0; number = pos 1 } ∷ record { at = 0; number = negsuc 4 } ∷ []; listed = true } ∷ record (scalar (codes "b")) { size = Some (record { at = 0; number = pos 9 }); listed = true } ∷ []) [])
-    ≡ lines (codes "shared {" ∷ codes "  int a [ 2 ] = {" ∷ codes "    1 , - 5 }" ∷ codes "  ;" ∷ codes "  int b [ 9 ] = {" ∷ codes "  }" ∷ codes "  ;" ∷ codes "}" ∷ codes "main {" ∷ codes "}" ∷ [])
+    ≡ lines (codes "shared {" ∷ codes "  int a [ 2 ] = {" ∷ codes "    1 , - 5 }" ∷ codes "  ;" ∷ codes "  int b [ 9 ] = {" ∷ codes "  }" ∷
+    codes "  ;" ∷ codes "}" ∷ codes "main {" ∷ codes "}" ∷ [])
 
 -- shared{int x;}main{for(int i=0;i<2;i+=1){parbegin routine[2](int w,int id){x=(1);}parend;}}
 abbrev pub OneStep : Type 0
@@ -81,4 +85,6 @@ OneStep =
     (expr (node.Binary Lt (var (codes "i")) (whole 2)))
     (stmt (form.AddTo (place (codes "i")) (whole 1)))
     (stmt (form.Par (roll-RoutineBlock (record { at = 0; width = whole 2; width_name = named (codes "w"); id_name = named (codes "id"); body = stmt (form.Set (place (codes "x")) (expr (node.Paren (whole 1)))) ∷ [] }) ∷ [])) ∷ [])) ∷ []))
-    ≡ lines (codes "shared {" ∷ codes "  int x ;" ∷ codes "}" ∷ codes "main {" ∷ codes "  for ( int i = 0 ; i < 2 ; i += 1 ) {" ∷ codes "    parbegin" ∷ codes "      routine [ 2 ] ( int w , int id ) {" ∷ codes "        x = ( 1 ) ;" ∷ codes "      }" ∷ codes "    parend ;" ∷ codes "  }" ∷ codes "}" ∷ [])
+    ≡ lines (codes "shared {" ∷ codes "  int x ;" ∷ codes "}" ∷ codes "main {" ∷ codes "  for ( int i = 0 ; i < 2 ; i += 1 ) {" ∷ codes
+    "    parbegin" ∷ codes "      routine [ 2 ] ( int w , int id ) {" ∷ codes "        x = ( 1 ) ;" ∷ codes "      }" ∷ codes
+    "    parend ;" ∷ codes "  }" ∷ codes "}" ∷ [])

@@ -8,7 +8,8 @@ use Rattle.csl_tree.specs.declared.token.TokenKind.TheVariants as kind
 use Rattle.csl_tree.specs.declared.token.Keyword.{Keyword}
 use Rattle.csl_tree.specs.declared.token.Keyword.TheVariants as keyword
 use Rattle.csl_tree.specs.declared.token.Mark.{Mark}
-use Rattle.csl_tree.specs.declared.token.Mark.TheVariants.{OpenBrace, CloseBrace, OpenParen, CloseParen, OpenBracket, CloseBracket, Comma, Semicolon, Assign, AddAssign, Minus}
+use Rattle.csl_tree.specs.declared.token.Mark.TheVariants.{OpenBrace, CloseBrace, OpenParen, CloseParen, OpenBracket, CloseBracket, Comma}
+use Rattle.csl_tree.specs.declared.token.Mark.TheVariants.{Semicolon, Assign, AddAssign, Minus}
 use Rattle.csl_tree.specs.declared.program.ArraySize.{ArraySize}
 use Rattle.csl_tree.specs.declared.program.Valued.{Valued}
 use Rattle.csl_tree.specs.declared.program.Shared.{Shared}
@@ -26,7 +27,8 @@ use Rattle.csl_tree.specs.declared.program.Stmt.{Stmt}
 use Rattle.csl_tree.specs.declared.program.Arm.{Arm, Arm', out-Arm}
 use Rattle.csl_tree.specs.declared.program.RoutineBlock.{RoutineBlock, RoutineBlock', out-RoutineBlock}
 use Rattle.csl_tree.specs.declared.program.Form as form
-use Rattle.csl_tree.specs.declared.program.Form.{Form, Row_of-Arm, end_of-Arm, more_of-Arm, Row_of-Stmt, end_of-Stmt, more_of-Stmt, Held-Form-If-1, Row_of-RoutineBlock, end_of-RoutineBlock, more_of-RoutineBlock}
+use Rattle.csl_tree.specs.declared.program.Form.{Form, Row_of-Arm, end_of-Arm, more_of-Arm, Row_of-Stmt, end_of-Stmt, more_of-Stmt}
+use Rattle.csl_tree.specs.declared.program.Form.{Held-Form-If-1, Row_of-RoutineBlock, end_of-RoutineBlock, more_of-RoutineBlock}
 use Rattle.csl_grammar.specs.Expressions.{mark_of, prefix_mark, truth_word}
 use Rattle.csl_grammar.specs.Programs.{type_word, result_word}
 
@@ -225,7 +227,8 @@ arm_tokens a = arm_of (out-Arm a).test (each statement_tokens (out-Arm a).body)
 
 -- a routine block: its width, its two parameters and its statements
 abbrev pub routine_tokens : RoutineBlock → List TokenKind
-routine_tokens r = routine_of (out-RoutineBlock r).width (out-RoutineBlock r).width_name (out-RoutineBlock r).id_name (each statement_tokens (out-RoutineBlock r).body)
+routine_tokens r = routine_of (out-RoutineBlock r).width (out-RoutineBlock r).width_name (out-RoutineBlock r).id_name
+    (each statement_tokens (out-RoutineBlock r).body)
 
 -- ---- shared declarations
 

@@ -3,7 +3,8 @@
 ghost use Rattle.std.specs.Prelude.{◌≡◌, OnOk};
 ghost use Rattle.csl_grammar.specs.Programs as grammar;
 ghost use Rattle.csl_print.specs.Layout.{adds_all};
-ghost use Rattle.csl_print.specs.TreeTokens.{signed_tokens, kind_tokens, size_tokens, value_tokens, initial_tokens, shared_tokens, param_tokens, function_tokens, separated};
+ghost use Rattle.csl_print.specs.TreeTokens.{signed_tokens, kind_tokens, size_tokens, value_tokens, initial_tokens, shared_tokens};
+ghost use Rattle.csl_print.specs.TreeTokens.{param_tokens, function_tokens, separated};
 
 use crate::printer::Printer;
 use crate::stmt::{print_body, type_word};

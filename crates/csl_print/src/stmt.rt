@@ -4,7 +4,8 @@ ghost use Rattle.std.specs.Prelude.{◌≡◌, OnOk};
 ghost use Rattle.csl_tree.specs.declared.program.RoutineBlock.{out-RoutineBlock};
 ghost use Rattle.csl_grammar.specs.Programs as grammar;
 ghost use Rattle.csl_print.specs.Layout.{adds_all};
-ghost use Rattle.csl_print.specs.TreeTokens.{given_tokens, item_tokens, form_tokens, ending, body_tokens, arm_tokens, routine_tokens, heading, word, in_parens, expr_tokens, separated, parted, each};
+ghost use Rattle.csl_print.specs.TreeTokens.{given_tokens, item_tokens, form_tokens, ending, body_tokens, arm_tokens, routine_tokens};
+ghost use Rattle.csl_print.specs.TreeTokens.{heading, word, in_parens, expr_tokens, separated, parted, each};
 ghost use Rattle.csl_tree.specs.declared.token.Keyword.TheVariants as keyword;
 
 use crate::expr::{print_call, print_expr, print_place};
@@ -215,7 +216,8 @@ fn print_routines(out: &mut Printer, blocks: &[RoutineBlock]) -> Result<(), NoMe
 
 /// Prints the width of a routine block and its two parameters.
 fn print_names(out: &mut Printer, block: &RoutineBlock) -> Result<(), NoMemory>
-    ensures { OnOk result (out.new ≡ adds_all out.old (heading (out-RoutineBlock block.now).width (out-RoutineBlock block.now).width_name (out-RoutineBlock block.now).id_name)) }
+    ensures { OnOk result (out.new ≡ adds_all out.old (heading (out-RoutineBlock block.now).width (out-RoutineBlock block.now).width_name
+        (out-RoutineBlock block.now).id_name)) }
 {
     out.mark(Mark::OpenBracket)?;
     print_expr(out, &block.width)?;

@@ -9,7 +9,8 @@ use Rattle.expression_parser.specs.declared.ParseError.{ParseError}
 use Rattle.expression_parser.specs.declared.ParseError.TheVariants as parser
 use Rattle.type_check.specs.declared.checked.CheckError.{CheckError}
 use Rattle.type_check.specs.declared.checked.CheckError.TheVariants as checker
-use Rattle.csl_reader.specs.declared.refusal.Refusal.TheVariants.{BadByte, LongName, LongNumber, OpenComment, OpenText, TooDeep, Unexpected, Faulty}
+use Rattle.csl_reader.specs.declared.refusal.Refusal.TheVariants.{BadByte, LongName, LongNumber, OpenComment, OpenText, TooDeep, Unexpected}
+use Rattle.csl_reader.specs.declared.refusal.Refusal.TheVariants.{Faulty}
 use Rattle.csl_reader.specs.declared.refusal.ReadError.{ReadError}
 use Rattle.csl_reader.specs.declared.refusal.ReadError.TheVariants.{Refused, NoMemory}
 use Rattle.csl_reader.specs.Readings.{IsRead, AreRead, judged, refused}

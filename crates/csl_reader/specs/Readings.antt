@@ -11,7 +11,8 @@ use Rattle.csl_grammar.specs.Spelling.{IsUnexpected}
 use Rattle.type_check.specs.declared.fault.Fault.{Fault}
 use Rattle.type_check.specs.Faults.{first_fault}
 use Rattle.csl_reader.specs.declared.refusal.Refusal.{Refusal}
-use Rattle.csl_reader.specs.declared.refusal.Refusal.TheVariants.{BadByte, LongName, LongNumber, OpenComment, OpenText, TooDeep, Unexpected, Faulty}
+use Rattle.csl_reader.specs.declared.refusal.Refusal.TheVariants.{BadByte, LongName, LongNumber, OpenComment, OpenText, TooDeep, Unexpected}
+use Rattle.csl_reader.specs.declared.refusal.Refusal.TheVariants.{Faulty}
 
 -- an accepted program, or a refusal with its place in the text
 pub data Reading : Type 0 where

@@ -1,9 +1,11 @@
 -- The words that tell of a refusal.
 use Rattle.std.specs.Prelude.{ℕ, List, codes}
 use Rattle.type_check.specs.declared.fault.CheckKind.{CheckKind}
-use Rattle.type_check.specs.declared.fault.CheckKind.TheVariants.{UnknownName, NameTaken, WrongUse, WrongType, WrongCount, NoReturn, WrongReturn, NotInLoop, OnlyInMain, TallyUsed, Limit}
+use Rattle.type_check.specs.declared.fault.CheckKind.TheVariants.{UnknownName, NameTaken, WrongUse, WrongType, WrongCount, NoReturn}
+use Rattle.type_check.specs.declared.fault.CheckKind.TheVariants.{WrongReturn, NotInLoop, OnlyInMain, TallyUsed, Limit}
 use Rattle.csl_reader.specs.declared.refusal.Refusal.{Refusal}
-use Rattle.csl_reader.specs.declared.refusal.Refusal.TheVariants.{BadByte, LongName, LongNumber, OpenComment, OpenText, TooDeep, Unexpected, Faulty}
+use Rattle.csl_reader.specs.declared.refusal.Refusal.TheVariants.{BadByte, LongName, LongNumber, OpenComment, OpenText, TooDeep, Unexpected}
+use Rattle.csl_reader.specs.declared.refusal.Refusal.TheVariants.{Faulty}
 
 -- the words for a fault of names, types, effects or limits
 abbrev pub fault_words : CheckKind → List ℕ

@@ -30,8 +30,10 @@ answers_are_all m fuel opening [] [] e = refl
 answers_are_all m fuel opening [] (w ∷ widths) e = absurd (omega arith)
 answers_are_all m fuel opening (block ∷ blocks) [] e = absurd (omega arith)
 answers_are_all m fuel opening (block ∷ blocks) (w ∷ widths) e =
-    let own : length (map (λ id. answered (routine_outcome m block w id opening fuel)) (range_with_len 0 w)) ≡ w = length-map-range_with_len (λ id. answered (routine_outcome m block w id opening fuel)) 0 w in
-    let both : length (answers m fuel opening (block ∷ blocks) (w ∷ widths)) ≡ length (map (λ id. answered (routine_outcome m block w id opening fuel)) (range_with_len 0 w)) + length (answers m fuel opening blocks widths) = length-append (map (λ id. answered (routine_outcome m block w id opening fuel)) (range_with_len 0 w)) (answers m fuel opening blocks widths) in
+    let own : length (map (λ id. answered (routine_outcome m block w id opening fuel)) (range_with_len 0 w)) ≡ w = length-map-range_with_len
+    (λ id. answered (routine_outcome m block w id opening fuel)) 0 w in
+    let both : length (answers m fuel opening (block ∷ blocks) (w ∷ widths)) ≡ length (map (λ id. answered (routine_outcome m block w id opening fuel)) (range_with_len 0 w)) + length
+    (answers m fuel opening blocks widths) = length-append (map (λ id. answered (routine_outcome m block w id opening fuel)) (range_with_len 0 w)) (answers m fuel opening blocks widths) in
     let together : sum (w ∷ widths) ≡ w + sum widths = sum_by-cons (λ x. x) w widths in
     let others : length (answers m fuel opening blocks widths) ≡ sum widths = answers_are_all m fuel opening blocks widths (omega arith) in
     omega arith
@@ -45,7 +47,8 @@ answers_go_by_blocks m fuel opening (b ∷ blocks) (w ∷ widths) zero id width 
     let lt' : id < w = omega arith in
     let first : sum (take 0 (w ∷ widths)) + id ≡ id = zero-add id in
     ap (λ (k : ℕ). slice_get (answers m fuel opening (b ∷ blocks) (w ∷ widths)) k) first
-    ∙ in_first (map (λ id. answered (routine_outcome m b w id opening fuel)) (range_with_len 0 w)) (answers m fuel opening blocks widths) id _ (from_range (λ id. answered (routine_outcome m b w id opening fuel)) 0 w id lt')
+    ∙ in_first (map (λ id. answered (routine_outcome m b w id opening fuel)) (range_with_len 0 w)) (answers m fuel opening blocks widths) id _
+    (from_range (λ id. answered (routine_outcome m b w id opening fuel)) 0 w id lt')
     ∙ ap (λ (k : ℕ). Some (answered (routine_outcome m b w k opening fuel))) (zero-add id)
     ∙ (λ j. Some (answered (routine_outcome m (same_block j) (same_width j) id opening fuel)))
 answers_go_by_blocks m fuel opening (b ∷ blocks) (w ∷ widths) (suc i) id width block at there lt =

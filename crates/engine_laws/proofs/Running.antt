@@ -21,7 +21,8 @@ pub left_is_meant : (job : StepJob) (history : History) (r : Result Memory StepF
 left_is_meant job history r whole e = sym (merged_is_meant job history whole.legal whole.complete) ∙ e
 
 -- the step that is closed stands behind those before it
-steps_push : (main : Main) (closed : List ClosedStep) (step : ClosedStep) (more : List StepJob) → jobs_in closed ++ step.job ∷ more ≡ steps_of main → jobs_in (closed ++ step ∷ []) ++ more ≡ steps_of main
+steps_push : (main : Main) (closed : List ClosedStep) (step : ClosedStep) (more : List StepJob) → jobs_in closed ++ step.job ∷ more ≡ steps_of main
+    → jobs_in (closed ++ step ∷ []) ++ more ≡ steps_of main
 steps_push main closed step more e = ap (λ (l : List StepJob). l ++ more) (jobs_push closed step) ∙ append_assoc (jobs_in closed) (step.job ∷ []) more ∙ e
 
 pub parts_are_meant : PartsAreMeant
@@ -38,9 +39,11 @@ parts_are_meant main _ _ _ (Closed job next shown closed history later runs whol
     let part = parts_are_meant main (Opens job next) shown closed runs in
     let meant_so : meant job ≡ Ok later = left_is_meant job history (Ok later) whole left in
     record {
-      events = append_assoc shown (step_event job later ∷ []) (meaning_of (next later)).events ∙ ap (λ r. shown ++ (going_on job r (λ later. meaning_of (next later))).events) (sym meant_so) ∙ part.events;
+      events = append_assoc shown (step_event job later ∷ []) (meaning_of (next later)).events ∙ ap (λ r. shown ++ (going_on job r (λ later. meaning_of (next later))).events) (sym meant_so)
+          ∙ part.events;
       ending = ap (λ r. (going_on job r (λ later. meaning_of (next later))).ending) (sym meant_so) ∙ part.ending;
-      steps = steps_push main closed (record { job = job; history = history }) (steps_of (next later)) (ap (λ r. jobs_in closed ++ job ∷ steps_behind r (λ later. steps_of (next later))) (sym meant_so) ∙ part.steps);
+      steps = steps_push main closed (record { job = job; history = history }) (steps_of (next later))
+          (ap (λ r. jobs_in closed ++ job ∷ steps_behind r (λ later. steps_of (next later))) (sym meant_so) ∙ part.steps);
       whole = each_push IsWhole closed (record { job = job; history = history }) part.whole whole;
     }
 

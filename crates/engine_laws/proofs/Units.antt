@@ -1,5 +1,6 @@
 -- Main opens a step for a unit of fuel, and with few routines.
-use Rattle.std.proofs.Common.{◌≡◌, ℕ, zero, suc, ◌+◌, ◌-◌, ◌<◌, ◌≤◌, Bool, true, false, cond, List, [], ◌∷◌, length, map, take, reverse, sum, Option, Some, None, Result, Ok, Err, refl, sym, subst, arith, length-append}
+use Rattle.std.proofs.Common.{◌≡◌, ℕ, zero, suc, ◌+◌, ◌-◌, ◌<◌, ◌≤◌, Bool, true, false, cond, List, [], ◌∷◌, length, map, take, reverse, sum, Option, Some, None, Result, Ok, Err, refl, sym, subst}
+use Rattle.std.proofs.Common.{arith, length-append}
 use Rattle.std.specs.Prelude.{ℤ, ◌+ℤ◌, ◌-ℤ◌, ◌*ℤ◌, neg_ℤ, int_lt, int_le, ◌==◌, nat_lt, not, slice_get, slice_set}
 use Rattle.std.specs.List.{range_with_len}
 use Rattle.std.proofs.Math.Dec.{leb}
@@ -25,7 +26,9 @@ use Rattle.bytecode.specs.declared.instr.Instr.TheVariants as i
 use Rattle.bytecode.specs.declared.instr.PrintItem.{PrintItem}
 use Rattle.bytecode.specs.declared.module.Code.{Code}
 use Rattle.bytecode.specs.declared.module.Module.{Module}
-use Rattle.machine_meaning.specs.Machine.{◌>>=◌, kind_of, Call, State, Next, On, Prints, Opens, Ends, Traps, number, truth, numbers, equal, split, many_numbers, on_with, at_target, traps, pushes, leaves_store, writes, in_routine, may_use, using, item_at, at_item, spends, begun, most_callers, enters, calls, given_back, leaves, stores, drops, pieces, prints, opens, opens_blocks, reads_item, writes_item, step, next}
+use Rattle.machine_meaning.specs.Machine.{◌>>=◌, kind_of, Call, State, Next, On, Prints, Opens, Ends, Traps, number, truth, numbers, equal, split, many_numbers, on_with, at_target, traps, pushes}
+use Rattle.machine_meaning.specs.Machine.{leaves_store, writes, in_routine, may_use, using, item_at, at_item, spends, begun, most_callers, enters, calls, given_back, leaves, stores, drops, pieces}
+use Rattle.machine_meaning.specs.Machine.{prints, opens, opens_blocks, reads_item, writes_item, step, next}
 use Rattle.machine_meaning.specs.Runs.{most_steps, main_beginning}
 use Rattle.machine_meaning.specs.Meaning.{answers, answered, routine_outcome, blocks_of, module_memory, main_at, main_from}
 use Rattle.engine_laws.specs.Steps.{TakesUnits, StepsAreNumbered, StepsTakeUnits}
@@ -80,7 +83,8 @@ calls_tame : (s : State) (o : Option Code) → Tame s.fuel (calls o s)
 calls_tame s None = tt
 calls_tame s (Some f) =
     bind_tame s.fuel (split (reverse (take f.params f.locals)) s.call.operands) (λ parts. Some (spends (on_with s parts.1) s.fuel (enters f (reverse parts.0))))
-    (λ parts. spends_tame (on_with s parts.1) s.fuel (enters f (reverse parts.0)) refl (λ (left : ℕ) (e : suc left ≡ s.fuel). enters_tame s.fuel f (reverse parts.0) (record (on_with s parts.1) { fuel = left }) (omega arith)))
+    (λ parts. spends_tame (on_with s parts.1) s.fuel (enters f (reverse parts.0)) refl (λ (left : ℕ) (e : suc left ≡ s.fuel). enters_tame s.fuel f (reverse parts.0)
+    (record (on_with s parts.1) { fuel = left }) (omega arith)))
 
 leaves_tame : (callers : List Call) (given : List Val) (s : State) → Tame s.fuel (Some (leaves callers given s))
 leaves_tame [] given s = tt
@@ -153,18 +157,22 @@ step_tame m i.Ge s = bind_tame s.fuel (numbers s.call.operands) (λ x. Some (On 
 step_tame m (i.Load l) s = bind_tame s.fuel (slice_get s.call.locals l) (λ v. Some (On (on_with s (v ∷ s.call.operands)))) (λ v. same s.fuel)
 step_tame m (i.Store l) s = stores_tame s l s.call.operands (slice_get s.call.locals l)
 step_tame m (i.Word a) s = using_tame s.fuel m s a (On (on_with s (Int (read_word s.store a) ∷ s.call.operands))) (same s.fuel)
-step_tame m (i.Put a) s = bind_tame s.fuel (number s.call.operands) (λ x. using m s a (On (record (on_with s x.1) { store = write_word s.store a x.0 }))) (λ x. using_tame s.fuel m s a (On (record (on_with s x.1) { store = write_word s.store a x.0 })) (same s.fuel))
-step_tame m (i.AddWord a) s = bind_tame s.fuel (number s.call.operands) (λ x. cond (nat_lt a m.words) (Some (leaves_store s x.1 (add_word s.store a x.0))) None) (λ x. if_tame s.fuel (nat_lt a m.words) (Some (leaves_store s x.1 (add_word s.store a x.0))) None (store_tame s x.1 (add_word s.store a x.0)) tt)
+step_tame m (i.Put a) s = bind_tame s.fuel (number s.call.operands) (λ x. using m s a (On (record (on_with s x.1) { store = write_word s.store a x.0 })))
+    (λ x. using_tame s.fuel m s a (On (record (on_with s x.1) { store = write_word s.store a x.0 })) (same s.fuel))
+step_tame m (i.AddWord a) s = bind_tame s.fuel (number s.call.operands) (λ x. cond (nat_lt a m.words) (Some (leaves_store s x.1 (add_word s.store a x.0))) None)
+    (λ x. if_tame s.fuel (nat_lt a m.words) (Some (leaves_store s x.1 (add_word s.store a x.0))) None (store_tame s x.1 (add_word s.store a x.0)) tt)
 step_tame m (i.Item b n) s = bind_tame s.fuel (number s.call.operands) (λ x. reads_item m s b n x) (λ x. reads_tame m s b n x)
 step_tame m (i.SetItem b n) s = bind_tame s.fuel (numbers s.call.operands) (λ x. writes_item m s b n (λ a. Ok x.1) x.0 x.2) (λ x. writes_tame m s b n (λ a. Ok x.1) x.0 x.2)
-step_tame m (i.AddItem b n) s = bind_tame s.fuel (numbers s.call.operands) (λ x. writes_item m s b n (λ a. checked (read_word s.store a +ℤ x.1)) x.0 x.2) (λ x. writes_tame m s b n (λ a. checked (read_word s.store a +ℤ x.1)) x.0 x.2)
+step_tame m (i.AddItem b n) s = bind_tame s.fuel (numbers s.call.operands) (λ x. writes_item m s b n (λ a. checked (read_word s.store a +ℤ x.1)) x.0 x.2)
+    (λ x. writes_tame m s b n (λ a. checked (read_word s.store a +ℤ x.1)) x.0 x.2)
 step_tame m (i.Jump t) s = same s.fuel
 step_tame m (i.Branch t) s = bind_tame s.fuel (truth s.call.operands) (λ x. Some (On (cond x.0 (on_with s x.1) (at_target s t x.1)))) (λ x. branch_tame s t x.0 x.1)
 step_tame m (i.Loop t) s = spends_tame s s.fuel (λ s'. On (at_target s' t s.call.operands)) refl (λ left e. omega arith)
 step_tame m (i.Call f) s = calls_tame s (slice_get m.functions f)
 step_tame m i.Return s = bind_tame s.fuel (given_back s.call.code.gives s.call.operands) (λ vs. Some (leaves s.callers vs s)) (λ vs. leaves_tame s.callers vs s)
 step_tame m i.Pop s = drops_tame s s.call.operands
-step_tame m i.Assert s = bind_tame s.fuel (truth s.call.operands) (λ x. Some (cond x.0 (On (on_with s x.1)) (traps cause.Assertion s))) (λ x. next_if s.fuel x.0 (On (on_with s x.1)) (traps cause.Assertion s) (same s.fuel) tt)
+step_tame m i.Assert s = bind_tame s.fuel (truth s.call.operands) (λ x. Some (cond x.0 (On (on_with s x.1)) (traps cause.Assertion s)))
+    (λ x. next_if s.fuel x.0 (On (on_with s x.1)) (traps cause.Assertion s) (same s.fuel) tt)
 step_tame m (i.Print items) s = prints_tame m s items (in_routine s.store)
 step_tame m (i.Par b n) s = blocks_tame m s b n (in_routine s.store)
 
@@ -176,14 +184,17 @@ pub length_answers : (m : Module) (fuel : ℕ) (opening : Memory) (blocks : List
 length_answers m fuel opening [] widths = omega arith
 length_answers m fuel opening (block ∷ blocks) [] = omega arith
 length_answers m fuel opening (block ∷ blocks) (w ∷ widths) =
-    let own : length (map (λ id. answered (routine_outcome m block w id opening fuel)) (range_with_len 0 w)) ≡ w = length-map-range_with_len (λ id. answered (routine_outcome m block w id opening fuel)) 0 w in
-    let both : length (answers m fuel opening (block ∷ blocks) (w ∷ widths)) ≡ length (map (λ id. answered (routine_outcome m block w id opening fuel)) (range_with_len 0 w)) + length (answers m fuel opening blocks widths) = length-append (map (λ id. answered (routine_outcome m block w id opening fuel)) (range_with_len 0 w)) (answers m fuel opening blocks widths) in
+    let own : length (map (λ id. answered (routine_outcome m block w id opening fuel)) (range_with_len 0 w)) ≡ w = length-map-range_with_len
+    (λ id. answered (routine_outcome m block w id opening fuel)) 0 w in
+    let both : length (answers m fuel opening (block ∷ blocks) (w ∷ widths)) ≡ length (map (λ id. answered (routine_outcome m block w id opening fuel)) (range_with_len 0 w)) + length
+    (answers m fuel opening blocks widths) = length-append (map (λ id. answered (routine_outcome m block w id opening fuel)) (range_with_len 0 w)) (answers m fuel opening blocks widths) in
     let together : sum (w ∷ widths) ≡ w + sum widths = sum_by-cons (λ x. x) w widths in
     let others : length (answers m fuel opening blocks widths) ≤ sum widths = length_answers m fuel opening blocks widths in
     omega arith
 
 -- main goes on with numbered steps where it does behind each step of the machine
-numbered_at : (m : Module) (whole steps n : ℕ) (more : ℕ → State → outline.Main) (o : Option Next) → Tame n o → ((k : ℕ) (s : State) → IsNumbered k (more k s)) → IsNumbered steps (main_at m whole steps more o)
+numbered_at : (m : Module) (whole steps n : ℕ) (more : ℕ → State → outline.Main) (o : Option Next) → Tame n o → ((k : ℕ) (s : State) → IsNumbered k (more k s))
+    → IsNumbered steps (main_at m whole steps more o)
 numbered_at m whole steps n more None h all = tt
 numbered_at m whole steps n more (Some (On s)) h all = all steps s
 numbered_at m whole steps n more (Some (Prints line s)) h all = all steps s
@@ -197,7 +208,8 @@ numbered_from m whole zero steps s = tt
 numbered_from m whole (suc bound) steps s = numbered_at m whole steps s.fuel (λ k later. main_from m whole bound k later) (next m s) (next_tame m s) (λ k later. numbered_from m whole bound k later)
 
 -- and it takes units where it does
-units_at : (m : Module) (whole steps n units : ℕ) (more : ℕ → State → outline.Main) (o : Option Next) → Tame n o → n ≤ units → ((k left : ℕ) (s : State) → s.fuel ≤ left → TakesUnits left (more k s)) → TakesUnits units (main_at m whole steps more o)
+units_at : (m : Module) (whole steps n units : ℕ) (more : ℕ → State → outline.Main) (o : Option Next) → Tame n o → n ≤ units → ((k left : ℕ) (s : State) → s.fuel ≤ left → TakesUnits left (more k s))
+    → TakesUnits units (main_at m whole steps more o)
 units_at m whole steps n units more None h le all = tt
 units_at m whole steps n units more (Some (On s)) h le all = all steps units s (omega arith)
 units_at m whole steps n units more (Some (Prints line s)) h le all = all steps units s (omega arith)
@@ -208,7 +220,8 @@ units_at m whole steps n units more (Some (Traps c store left)) h le all = tt
 
 units_from : (m : Module) (whole bound steps units : ℕ) (s : State) → s.fuel ≤ units → TakesUnits units (main_from m whole bound steps s)
 units_from m whole zero steps units s le = tt
-units_from m whole (suc bound) steps units s le = units_at m whole steps s.fuel units (λ k later. main_from m whole bound k later) (next m s) (next_tame m s) le (λ k left later more. units_from m whole bound k left later more)
+units_from m whole (suc bound) steps units s le = units_at m whole steps s.fuel units (λ k later. main_from m whole bound k later) (next m s) (next_tame m s) le
+    (λ k left later more. units_from m whole bound k left later more)
 
 pub steps_are_numbered : StepsAreNumbered
 steps_are_numbered m fuel = numbered_from m fuel (most_steps m (main_beginning m (module_memory m) fuel) + 1) 0 (main_beginning m (module_memory m) fuel)

@@ -44,16 +44,19 @@ pub record IsMeantRun (main : Main) (shown : List Event) (closed : List ClosedSt
 
 -- a run that closes each step by a legal and complete history shows and ends as main means, and its steps are those that the meaning opens
 abbrev pub RunsAreMeant : Type 0
-RunsAreMeant = (main : Main) (shown : List Event) (closed : List ClosedStep) (ending : RunEnd) → RunsThrough main shown closed ending → IsMeantRun main shown closed ending
+RunsAreMeant = (main : Main) (shown : List Event) (closed : List ClosedStep) (ending : RunEnd) → RunsThrough main shown closed ending
+    → IsMeantRun main shown closed ending
 
 -- as far as a run has come, it showed and closed what main means
 abbrev pub PartsAreMeant : Type 0
-PartsAreMeant = (main rest : Main) (shown : List Event) (closed : List ClosedStep) → RunsTo main rest shown closed → IsPart main rest shown closed
+PartsAreMeant = (main rest : Main) (shown : List Event) (closed : List ClosedStep) → RunsTo main rest shown closed
+    → IsPart main rest shown closed
 
 -- the next step of a run has the number behind its closed steps, and each closed step took one of the units
 abbrev pub ClosedStepsAreCounted : Type 0
 ClosedStepsAreCounted =
-    (main rest : Main) (shown : List Event) (closed : List ClosedStep) (before units : ℕ) → RunsTo main rest shown closed → IsNumbered before main → TakesUnits units main
+    (main rest : Main) (shown : List Event) (closed : List ClosedStep) (before units : ℕ) → RunsTo main rest shown closed
+    → IsNumbered before main → TakesUnits units main
     → IsNumbered (before + length closed) rest × (left : ℕ) × (units ≡ length closed + left) × TakesUnits left rest
 
 -- the claims of the caller in these steps

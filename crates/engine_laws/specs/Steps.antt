@@ -37,4 +37,5 @@ abbrev pub AnswersGoByBlocks : Type 0
 AnswersGoByBlocks =
     (m : Module) (fuel : ℕ) (opening : Memory) (blocks : List Code) (widths : List ℕ) (i id width : ℕ) (block : Code)
     → slice_get blocks i ≡ Some block → slice_get widths i ≡ Some width → id < width
-    → slice_get (answers m fuel opening blocks widths) (sum (take i widths) + id) ≡ Some (answered (routine_outcome m block width id opening fuel))
+    → slice_get (answers m fuel opening blocks widths) (sum (take i widths) + id) ≡ Some
+    (answered (routine_outcome m block width id opening fuel))

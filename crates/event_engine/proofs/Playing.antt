@@ -22,14 +22,17 @@ drop_here xs i d within = let one : suc i ≡ i + 1 = omega arith in drop_next x
 
 module _ (job : StepJob) where
   -- one event more
-  pub goes_more : (after : Memory → Main) (turn later : Turn) (e : Event) (events rest : List Event) → (IsComplete job turn.history → ⊥) → events ≡ e ∷ rest → later ≡ turn_of job e turn → resume_in job after turn events ≡ resume_in job after later rest
+  pub goes_more : (after : Memory → Main) (turn later : Turn) (e : Event) (events rest : List Event) → (IsComplete job turn.history → ⊥) → events ≡ e ∷ rest → later ≡ turn_of job e turn
+      → resume_in job after turn events ≡ resume_in job after later rest
   goes_more after turn later e events rest still are is =
       ap (resume_in job after turn) are ∙ resume_turn job after turn e rest (open_is job turn.history still) ∙ ap (λ (t : Turn). resume_in job after t rest) (sym is)
 
   -- the whole step
-  module _ (modes worked left : ℕ → Mode) (free : (w : ℕ) → freed (modes w) ≡ modes w) (older first fresh kept : List Delivery) (events rest : List Event) (begun core history : History) (none : begun ≡ []) (empty : first ≡ []) where
+  module _ (modes worked left : ℕ → Mode) (free : (w : ℕ) → freed (modes w) ≡ modes w) (older first fresh kept : List Delivery) (events rest : List Event) (begun core history : History)
+      (none : begun ≡ []) (empty : first ≡ []) where
     pub whole_step :
-        ((after : Memory → Main) → resume_in job after (record { history = begun; modes = modes; deliveries = older ++ first }) events ≡ resume_in job after (record { history = core; modes = worked; deliveries = older ++ fresh }) rest)
+        ((after : Memory → Main) → resume_in job after (record { history = begun; modes = modes; deliveries = older ++ first }) events ≡ resume_in job after
+        (record { history = core; modes = worked; deliveries = older ++ fresh }) rest)
         → IsComplete job core ⊎ (rest ≡ []) → history ≡ completed job core → left ≡ (λ w. freed (worked w)) → kept ≡ older ++ fresh
         → (next : Memory → Main) → resume (Opens job next) modes older events ≡ closing job history (merged job history) (λ later. resume (next later) left kept rest)
     whole_step goes ends is frees keeps next =

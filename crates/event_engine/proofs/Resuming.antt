@@ -16,7 +16,8 @@ use Rattle.step_laws.specs.Closed.{ClosedStep}
 use Rattle.step_laws.specs.Laws.{IsRightClaim}
 use Rattle.step_laws.proofs.StepLaws.{claims_are_right}
 use Rattle.event_world.specs.declared.event.Event.{Event}
-use Rattle.event_world.specs.World.{Mode, Idle, Delivery, Phase, Open, Over, Run, State, Turn, is_all_done, is_complete, closing, run_on, settled, freed, turn_of, apply_in, apply, apply_all, finish_main, finish_in, world}
+use Rattle.event_world.specs.World.{Mode, Idle, Delivery, Phase, Open, Over, Run, State, Turn, is_all_done, is_complete, closing, run_on, settled, freed, turn_of, apply_in, apply, apply_all}
+use Rattle.event_world.specs.World.{finish_main, finish_in, world}
 use Rattle.event_engine.specs.Resuming.{behind, run_from, resume, resume_in}
 use Rattle.calypso_engine.proofs.Completing.{complete_stays}
 
@@ -51,22 +52,26 @@ module _ (shown : List Shown) (closed : List ClosedStep) where
   run_from_behind events state =
       let last : State = apply_all events state in
       let rest : Run = finish_in last.run.phase in
-      ap (λ (s : State). record { shown = s.run.shown ++ (finish_in s.run.phase).shown; closed = s.run.closed ++ (finish_in s.run.phase).closed; phase = (finish_in s.run.phase).phase }) (apply_all_behind events state)
+      ap (λ (s : State). record { shown = s.run.shown ++ (finish_in s.run.phase).shown; closed = s.run.closed ++ (finish_in s.run.phase).closed; phase = (finish_in s.run.phase).phase })
+      (apply_all_behind events state)
       ∙ (λ i. record { shown = append_assoc shown last.run.shown rest.shown i; closed = append_assoc closed last.run.closed rest.closed i; phase = rest.phase })
 
 -- ---- the end
 
 over_stays : (events : List Event) (ending : RunEnd) (modes : ℕ → Mode) (deliveries : List Delivery)
-    → apply_all events (record { run = record { shown = []; closed = []; phase = Over ending }; modes = modes; deliveries = deliveries }) ≡ record { run = record { shown = []; closed = []; phase = Over ending }; modes = modes; deliveries = deliveries }
+    → apply_all events (record { run = record { shown = []; closed = []; phase = Over ending }; modes = modes; deliveries = deliveries }) ≡ record
+    { run = record { shown = []; closed = []; phase = Over ending }; modes = modes; deliveries = deliveries }
 over_stays [] ending modes deliveries = refl
 over_stays (e ∷ events) ending modes deliveries = over_stays events ending modes deliveries
 
 over_run : (events : List Event) (ending : RunEnd) (modes : ℕ → Mode) (deliveries : List Delivery)
     → run_from events (record { run = record { shown = []; closed = []; phase = Over ending }; modes = modes; deliveries = deliveries }) ≡ record { shown = []; closed = []; phase = Over ending }
 over_run events ending modes deliveries =
-    ap (λ (s : State). record { shown = s.run.shown ++ (finish_in s.run.phase).shown; closed = s.run.closed ++ (finish_in s.run.phase).closed; phase = (finish_in s.run.phase).phase }) (over_stays events ending modes deliveries)
+    ap (λ (s : State). record { shown = s.run.shown ++ (finish_in s.run.phase).shown; closed = s.run.closed ++ (finish_in s.run.phase).closed; phase = (finish_in s.run.phase).phase })
+    (over_stays events ending modes deliveries)
 
-pub resume_end : (ending : RunEnd) (modes : ℕ → Mode) (deliveries : List Delivery) (events : List Event) → resume (Ends ending) modes deliveries events ≡ record { shown = []; closed = []; phase = Over ending }
+pub resume_end : (ending : RunEnd) (modes : ℕ → Mode) (deliveries : List Delivery) (events : List Event)
+    → resume (Ends ending) modes deliveries events ≡ record { shown = []; closed = []; phase = Over ending }
 unfolding resume
 resume_end ending modes deliveries events = over_run events ending modes deliveries
 
@@ -78,7 +83,8 @@ resume_first main events = refl
 
 -- ---- a line
 
-pub resume_line : (line : List ℕ) (main : Main) (modes : ℕ → Mode) (deliveries : List Delivery) (events : List Event) → resume (Shows line main) modes deliveries events ≡ behind (Line line ∷ []) [] (resume main modes deliveries events)
+pub resume_line : (line : List ℕ) (main : Main) (modes : ℕ → Mode) (deliveries : List Delivery) (events : List Event)
+    → resume (Shows line main) modes deliveries events ≡ behind (Line line ∷ []) [] (resume main modes deliveries events)
 unfolding resume
 resume_line line main modes deliveries events = run_from_behind (Line line ∷ []) [] events (record { run = run_on main; modes = modes; deliveries = deliveries })
 
@@ -86,13 +92,17 @@ resume_line line main modes deliveries events = run_from_behind (Line line ∷ [
 
 module _ (job : StepJob) (next : Memory → Main) (history : History) (modes : ℕ → Mode) (deliveries : List Delivery) (events : List Event) where
   run_closing : (r : Result Memory StepFault)
-      → run_from events (record { run = closing job history r (λ later. run_on (next later)); modes = modes; deliveries = deliveries }) ≡ closing job history r (λ later. resume (next later) modes deliveries events)
+      → run_from events (record { run = closing job history r (λ later. run_on (next later)); modes = modes; deliveries = deliveries }) ≡ closing job history r
+      (λ later. resume (next later) modes deliveries events)
   unfolding resume
-  run_closing (Ok later) = run_from_behind (step_event job later ∷ []) (record { job = job; history = history } ∷ []) events (record { run = run_on (next later); modes = modes; deliveries = deliveries })
-  run_closing (Err fault) = run_from_behind [] (record { job = job; history = history } ∷ []) events _ ∙ ap (behind [] (record { job = job; history = history } ∷ [])) (over_run events _ modes deliveries)
+  run_closing (Ok later) = run_from_behind (step_event job later ∷ []) (record { job = job; history = history } ∷ []) events
+      (record { run = run_on (next later); modes = modes; deliveries = deliveries })
+  run_closing (Err fault) = run_from_behind [] (record { job = job; history = history } ∷ []) events _
+      ∙ ap (behind [] (record { job = job; history = history } ∷ [])) (over_run events _ modes deliveries)
 
 -- where main goes on in the same way, so does the run
-pub closing_same : (job : StepJob) (history : History) (one other : Memory → Run) → ((later : Memory) → one later ≡ other later) → closing job history (merged job history) one ≡ closing job history (merged job history) other
+pub closing_same : (job : StepJob) (history : History) (one other : Memory → Run) → ((later : Memory) → one later ≡ other later)
+    → closing job history (merged job history) one ≡ closing job history (merged job history) other
 closing_same job history one other same = λ i. closing job history (merged job history) (λ later. same later i)
 
 -- ---- the tests
@@ -122,7 +132,8 @@ complete_so : (job : StepJob) (history : History) → is_complete job history �
 complete_so job history e = complete_stays job history (complete_from job history (claimed job history CALLER) (claims_are_right job history CALLER) e)
 
 -- the same run by the history that the caller completes
-completed_closing : (job : StepJob) (history : History) (run : Memory → Run) → is_complete job history ≡ true → closing job history (merged job history) run ≡ closing job (completed job history) (merged job (completed job history)) run
+completed_closing : (job : StepJob) (history : History) (run : Memory → Run) → is_complete job history ≡ true
+    → closing job history (merged job history) run ≡ closing job (completed job history) (merged job (completed job history)) run
 completed_closing job history run e = ap (λ (h : History). closing job h (merged job h) run) (sym (complete_so job history e))
 
 -- ---- where no event is left
@@ -172,7 +183,8 @@ module _ (job : StepJob) (next : Memory → Main) where
 
     -- it is closed
     complete_closes : (events : List Event) → is_complete job turn.history ≡ true
-        → resume_in job next turn events ≡ closing job (completed job turn.history) (merged job (completed job turn.history)) (λ later. resume (next later) (λ w. freed (turn.modes w)) turn.deliveries events)
+        → resume_in job next turn events ≡ closing job (completed job turn.history) (merged job (completed job turn.history))
+        (λ later. resume (next later) (λ w. freed (turn.modes w)) turn.deliveries events)
     unfolding resume_in
     complete_closes events e =
         ap (λ (b : Bool). run_from events (state_by b)) e
@@ -187,12 +199,14 @@ module _ (job : StepJob) (next : Memory → Main) where
         ∙ (λ i. closing job (completed job turn.history) (merged job (completed job turn.history)) (λ later. sym (resume_none (next later) (λ w. freed (turn.modes w)) turn.deliveries) i))
 
     pub resume_closes : (events : List Event) → IsComplete job turn.history ⊎ (events ≡ [])
-        → resume_in job next turn events ≡ closing job (completed job turn.history) (merged job (completed job turn.history)) (λ later. resume (next later) (λ w. freed (turn.modes w)) turn.deliveries events)
+        → resume_in job next turn events ≡ closing job (completed job turn.history) (merged job (completed job turn.history))
+        (λ later. resume (next later) (λ w. freed (turn.modes w)) turn.deliveries events)
     resume_closes events end =
         ⊎_elim (λ (complete : IsComplete job turn.history). complete_closes events (complete_is job turn.history complete))
         (λ (none : events ≡ []).
         subst
-        (λ (es : List Event). resume_in job next turn es ≡ closing job (completed job turn.history) (merged job (completed job turn.history)) (λ later. resume (next later) (λ w. freed (turn.modes w)) turn.deliveries es))
+        (λ (es : List Event). resume_in job next turn es ≡ closing job (completed job turn.history) (merged job (completed job turn.history))
+        (λ later. resume (next later) (λ w. freed (turn.modes w)) turn.deliveries es))
         (sym none)
         (⊎_elim (λ (yes : is_complete job turn.history ≡ true). complete_closes [] yes) (λ (no : is_complete job turn.history ≡ false). left_closes no) (cases_Bool (is_complete job turn.history))))
         end

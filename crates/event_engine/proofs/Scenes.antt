@@ -1,5 +1,6 @@
 -- What workers are at, from event to event.
-use Rattle.std.proofs.Common.{◌≡◌, ℕ, zero, suc, ◌+◌, ◌-◌, ◌<◌, ◌≤◌, Bool, true, false, cond, eqb, List, [], ◌∷◌, ◌++◌, length, get_or, replicate, map, refl, sym, ap, subst, ◌∙◌, arith, append_assoc, ⊎_elim, Option, Some, None, IfSome}
+use Rattle.std.proofs.Common.{◌≡◌, ℕ, zero, suc, ◌+◌, ◌-◌, ◌<◌, ◌≤◌, Bool, true, false, cond, eqb, List, [], ◌∷◌, ◌++◌, length, get_or, replicate, map, refl, sym, ap, subst, ◌∙◌, arith, append_assoc}
+use Rattle.std.proofs.Common.{⊎_elim, Option, Some, None, IfSome}
 use Rattle.std.specs.Prelude.{slice_set, slice_index_or}
 use Rattle.std.specs.List.{AllByRecursion}
 use Rattle.std.proofs.lemmas.Bool.{cases_eq, eq-eqb, ne_eqb}
@@ -66,7 +67,8 @@ same_read (x ∷ xs) (suc i) a b within = same_read xs i a b (omega (arith, with
 
 -- ---- a busy worker finishes
 
-pub finished_turn : (job : StepJob) (modes : List Mode) (place who k j : ℕ) (d : Mode) (items later : List world.Delivery) (one : world.Delivery) → place ≡ who → place < length modes → get_or modes place d ≡ mode.Busy k
+pub finished_turn : (job : StepJob) (modes : List Mode) (place who k j : ℕ) (d : Mode) (items later : List world.Delivery) (one : world.Delivery) → place ≡ who → place < length modes
+    → get_or modes place d ≡ mode.Busy k
     → later ≡ items ++ one ∷ [] → one ≡ record { who = who; step = job.number; k = j } → j ≡ k
     → (h : History) (ds : List world.Delivery) → turn_at h (slice_set modes place mode.Idle) (ds ++ later) ≡ world.finish_by job who (modes_in modes who) (turn_at h modes (ds ++ items))
 finished_turn job modes place who k j d items later one here within is pushed made same h ds =
@@ -116,7 +118,8 @@ module _ (image : Paged) (m : Module) where
   work_length (a ∷ firsts) [] work = absurd work
   work_length (a ∷ firsts) (b ∷ bs) work = ap suc (work_length firsts bs work.1)
 
-  pub work_one : (ws : List WorkerState) (place : ℕ) (d v : WorkerState) → place < length ws → AllByRecursion (λ (w : WorkerState). MayWork w image m) ws → Executes (get_or ws place d) v image m → Work image m ws (slice_set ws place v)
+  pub work_one : (ws : List WorkerState) (place : ℕ) (d v : WorkerState) → place < length ws → AllByRecursion (λ (w : WorkerState). MayWork w image m) ws → Executes (get_or ws place d) v image m
+      → Work image m ws (slice_set ws place v)
   work_one [] place d v within may one = absurd (omega (arith, within))
   work_one (w ∷ ws) zero d v within may one = (one, work_none ws may.1)
   work_one (w ∷ ws) (suc place) d v within may one = (record { row = refl; tally = refl; holds = refl; size = refl; may = may.0 }, work_one ws place d v (omega (arith, within)) may.1 one)

@@ -101,7 +101,8 @@ module _ (o : RunOptions) where
 
   -- ---- a step that was closed
 
-  module _ (job : StepJob) (history : History) (whole : IsWhole (record { job = job; history = history })) (run : Run) (rest : Memory → Run) (is : run ≡ closing job history (merged job history) rest) (was now : Outside) where
+  module _ (job : StepJob) (history : History) (whole : IsWhole (record { job = job; history = history })) (run : Run) (rest : Memory → Run) (is : run ≡ closing job history (merged job history) rest)
+      (was now : Outside) where
     abbrev this : ClosedStep
     this = record { job = job; history = history }
 
@@ -123,14 +124,16 @@ module _ (o : RunOptions) where
     }
 
     -- it ends in a fault
-    pub step_all : (fault : StepFault) → meant job ≡ Err fault → Appends was.out now.out [] → Told was.files now.files (Logs (log_of o) (step_log (traced this))) → ToldAll o run (StepFailed job.number fault) was now
+    pub step_all : (fault : StepFault) → meant job ≡ Err fault → Appends was.out now.out [] → Told was.files now.files (Logs (log_of o) (step_log (traced this)))
+        → ToldAll o run (StepFailed job.number fault) was now
     step_all fault left written logged = record {
       phase = ap (λ (r : Run). r.phase) (run_is (Err fault) left);
       told = subst (λ (r : Run). Tells o r.shown r.closed was now) (sym (run_is (Err fault) left)) (told_of [] written logged);
     }
 
     -- it could not be told whole
-    pub step_front : (ended : Result (Unit {0}) StepFault) (later : Memory) (kept : Option Paged) → IsEnd (meant job) later ended → lines_behind kept job.number later ≡ event_text o.steps (step_event job later)
+    pub step_front : (ended : Result (Unit {0}) StepFault) (later : Memory) (kept : Option Paged) → IsEnd (meant job) later ended
+        → lines_behind kept job.number later ≡ event_text o.steps (step_event job later)
         → AppendsPrefix was.out now.out (lines_of_end ended kept job.number later) → Told was.files now.files (LogsFront (log_of o) (step_log (traced this))) → ToldFront o run was now
     step_front (Ok done) later kept left lines front logged =
         subst (λ (r : Run). ToldFront o r was now) (sym (run_is (Ok later) left))

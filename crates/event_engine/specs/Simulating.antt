@@ -59,4 +59,5 @@ pub record WasPlayed (job : StepJob) (n : ℕ) (events : List Event) (old new : 
   pub whole : IsWhole (record { job = job; history = closed.history.items })
   pub left : IsEnd (meant job) memory closed.result
   pub size : n ≡ size_of job
-  pub goes : (next : Memory → Main) → resumed (Opens job next) old events ≡ closing job closed.history.items (merged job closed.history.items) (λ later. resumed (next later) new events)
+  pub goes : (next : Memory → Main) → resumed (Opens job next) old events ≡ closing job closed.history.items
+      (merged job closed.history.items) (λ later. resumed (next later) new events)

@@ -54,7 +54,8 @@ impl Delivery {
     pub fn arrive<N: JobName>(&self, core: &mut Core<N>)
         requires { self.now.step < N.job.number }
         ensures worker { self.now.who < CALLER }
-        ensures history { core.new ≡ after_arrival core.old self.now.who self.now.step self.now.k (verdict_on N.job core.old self.now.who self.now.step self.now.k) }
+        ensures history { core.new ≡ after_arrival core.old self.now.who self.now.step self.now.k
+            (verdict_on N.job core.old self.now.who self.now.step self.now.k) }
     {
         core.arrive_held(self.who, self.step, self.k);
     }
@@ -72,7 +73,8 @@ impl<N: JobName> Fresh<N> {
     /// It arrives in its step.
     pub fn arrive(&self, core: &mut Core<N>)
         ensures worker { self.now.who < CALLER }
-        ensures history { core.new ≡ after_arrival core.old self.now.who self.now.step self.now.k (verdict_on N.job core.old self.now.who self.now.step self.now.k) }
+        ensures history { core.new ≡ after_arrival core.old self.now.who self.now.step self.now.k
+            (verdict_on N.job core.old self.now.who self.now.step self.now.k) }
     {
         core.arrive(self.who, &self.done);
     }

@@ -48,7 +48,9 @@ fn turns<N: JobName>(
     requires below { AreAtBelow (size_of N.job) modes.old }
     requires older { AllByRecursion (λ d. d.step < N.job.number) older.now }
     requires alone { NoCaller core.old }
-    ensures goes { IfOk result (λ next. (after : Memory → Main) → resume_in N.job after (turn_at core.old modes.old (older.now ++ fresh.old.items)) (drop from events.now) ≡ resume_in N.job after (turn_at core.new modes.new (older.now ++ fresh.new.items)) (drop next events.now)) }
+    ensures goes { IfOk result (λ next. (after : Memory → Main) → resume_in N.job after
+        (turn_at core.old modes.old (older.now ++ fresh.old.items)) (drop from events.now) ≡ resume_in N.job after
+        (turn_at core.new modes.new (older.now ++ fresh.new.items)) (drop next events.now)) }
     ensures ends { IfOk result (λ next. IsComplete N.job core.new ⊎ (drop next events.now ≡ [])) }
     ensures within { IfOk result (λ next. next ≤ length events.now) }
     ensures work { OnOk result (Work job.now.image.now job.now.code.now workers.old workers.new) }
@@ -82,7 +84,9 @@ fn turns_of<N: JobName>(
     requires below { AreAtBelow (size_of N.job) modes.old }
     requires older { AllByRecursion (λ d. d.step < N.job.number) older.now }
     requires alone { NoCaller core.old }
-    ensures goes { IfOk result (λ next. (after : Memory → Main) → resume_in N.job after (turn_at core.old modes.old (older.now ++ fresh.old.items)) (drop from events.now) ≡ resume_in N.job after (turn_at core.new modes.new (older.now ++ fresh.new.items)) (drop next events.now)) }
+    ensures goes { IfOk result (λ next. (after : Memory → Main) → resume_in N.job after
+        (turn_at core.old modes.old (older.now ++ fresh.old.items)) (drop from events.now) ≡ resume_in N.job after
+        (turn_at core.new modes.new (older.now ++ fresh.new.items)) (drop next events.now)) }
     ensures ends { IfOk result (λ next. IsComplete N.job core.new ⊎ (drop next events.now ≡ [])) }
     ensures within { IfOk result (λ next. next ≤ length events.now) }
     ensures work { OnOk result (Work job.now.image.now job.now.code.now workers.old.items workers.new.items) }
@@ -175,7 +179,8 @@ pub fn play_step(
     requires counted { steps < 2 ^ 32 }
     requires workers { Each IsOfWorker events.now }
     requires scene { IsScene (length events.now) steps scene.old }
-    ensures played { IfOk result (λ closed. WasPlayed (step_job code.now options.now.fuel (steps + 1) image.old.memory first_block widths.now) n events.now scene.old scene.new image.new.memory closed) }
+    ensures played { IfOk result (λ closed. WasPlayed (step_job code.now options.now.fuel (steps + 1) image.old.memory first_block
+        widths.now) n events.now scene.old scene.new image.new.memory closed) }
     ensures team { IfOk result (λ _. IsTeam options.now.script.now options.now.workers (steps + 1) image.new code.now team.new) }
     ensures scene { IfOk result (λ _. IsScene (length events.now) (steps + 1) scene.new) }
     ensures later { IfOk result (λ _. IsLater image.old image.new) }

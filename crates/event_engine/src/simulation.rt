@@ -61,7 +61,9 @@ fn sim_step<F: Files, S: Sink>(
     requires workers { Each IsOfWorker events.now }
     requires scene { IsScene (length events.now) standing.old.steps scene.old }
     requires created { IfSome options.now.log (λ name. F.created files.old name.now) }
-    ensures goes { GoesSo options.now (resumed (opening_here code.now options.now.fuel first_block standing.old) scene.old events.now) (resumed (rest_of code.now options.now.fuel standing.new) scene.new events.now) (outside_of (S.written out.old) (F.holds files.old)) (outside_of (S.written out.new) (F.holds files.new)) result }
+    ensures goes { GoesSo options.now (resumed (opening_here code.now options.now.fuel first_block standing.old) scene.old events.now)
+        (resumed (rest_of code.now options.now.fuel standing.new) scene.new events.now) (outside_of (S.written out.old) (F.holds files.old))
+        (outside_of (S.written out.new) (F.holds files.new)) result }
     ensures behind { result ≡ Ok None → IsBehind code.now options.now standing.old standing.new team.new }
     ensures scene { result ≡ Ok None → IsScene (length events.now) standing.new.steps scene.new }
     ensures created { StaysTrue (F.created files.old) (F.created files.new) }
@@ -124,10 +126,13 @@ fn sim_event<F: Files, S: Sink>(
     requires workers { Each IsOfWorker events.now }
     requires scene { IsScene (length events.now) standing.old.steps scene.old }
     requires created { IfSome options.now.log (λ name. F.created files.old name.now) }
-    ensures goes { GoesSo options.now (resumed (rest_of code.now options.now.fuel standing.old) scene.old events.now) (resumed (rest_of code.now options.now.fuel standing.new) scene.new events.now) (outside_of (S.written out.old) (F.holds files.old)) (outside_of (S.written out.new) (F.holds files.new)) result }
+    ensures goes { GoesSo options.now (resumed (rest_of code.now options.now.fuel standing.old) scene.old events.now)
+        (resumed (rest_of code.now options.now.fuel standing.new) scene.new events.now) (outside_of (S.written out.old) (F.holds files.old))
+        (outside_of (S.written out.new) (F.holds files.new)) result }
     ensures ready { result ≡ Ok None → IsReady code.now options.now standing.new team.new }
     ensures scene { result ≡ Ok None → IsScene (length events.now) standing.new.steps scene.new }
-    ensures falls { result ≡ Ok None → most_steps code.now (main_state code.now standing.new.machine []) < most_steps code.now (main_state code.now standing.old.machine []) }
+    ensures falls { result ≡ Ok None → most_steps code.now (main_state code.now standing.new.machine []) < most_steps code.now
+        (main_state code.now standing.old.machine []) }
     ensures created { StaysTrue (F.created files.old) (F.created files.new) }
     ensures files_later { F.faults files.old ≤ F.faults files.new }
     ensures out_later { S.faults out.old ≤ S.faults out.new }
@@ -186,7 +191,8 @@ fn sim_on<F: Files, S: Sink>(
     requires workers { Each IsOfWorker events.now }
     requires scene { IsScene (length events.now) standing.old.steps scene.old }
     requires created { IfSome options.now.log (λ name. F.created files.old name.now) }
-    ensures comes { ComesSo options.now (resumed (rest_of code.now options.now.fuel standing.old) scene.old events.now) (outside_of (S.written out.old) (F.holds files.old)) (outside_of (S.written out.new) (F.holds files.new)) result }
+    ensures comes { ComesSo options.now (resumed (rest_of code.now options.now.fuel standing.old) scene.old events.now)
+        (outside_of (S.written out.old) (F.holds files.old)) (outside_of (S.written out.new) (F.holds files.new)) result }
     ensures created { StaysTrue (F.created files.old) (F.created files.new) }
     ensures files_later { F.faults files.old ≤ F.faults files.new }
     ensures out_later { S.faults out.old ≤ S.faults out.new }
@@ -218,7 +224,8 @@ fn sim_with<F: Files, S: Sink>(
     requires most { options.now.frames ≤ 4096 }
     requires workers { Each IsOfWorker events.now }
     requires created { IfSome options.now.log (λ name. F.created files.old name.now) }
-    ensures comes { ComesSo options.now (world (machine_main code.now options.now.fuel) events.now) (outside_of (S.written out.old) (F.holds files.old)) (outside_of (S.written out.new) (F.holds files.new)) result }
+    ensures comes { ComesSo options.now (world (machine_main code.now options.now.fuel) events.now)
+        (outside_of (S.written out.old) (F.holds files.old)) (outside_of (S.written out.new) (F.holds files.new)) result }
     ensures created { StaysTrue (F.created files.old) (F.created files.new) }
     ensures files_later { F.faults files.old ≤ F.faults files.new }
     ensures out_later { S.faults out.old ≤ S.faults out.new }
@@ -263,10 +270,14 @@ pub fn sim<F: Files, S: Sink>(
     requires workers { Each IsOfWorker events.now }
     requires created { IfSome log (λ name. F.created files.old name.now) }
     ensures end { IfOk result (λ ended. ended ≡ (machine_meaning code.now SIM_FUEL).ending) }
-    ensures whole { IfOk result (λ _. Appends (S.written out.old) (S.written out.new) (text_of false (machine_meaning code.now SIM_FUEL).events)) }
-    ensures told { IfOk result (λ _. Told (F.holds files.old) (F.holds files.new) (Logs (option_map (λ name. name.now) log.entry) (log_text (trace_of (simulated code.now events.now).closed)))) }
-    ensures prefix { OnErr result (AppendsPrefix (S.written out.old) (S.written out.new) (text_of false (machine_meaning code.now SIM_FUEL).events)) }
-    ensures front { OnErr result (Told (F.holds files.old) (F.holds files.new) (LogsFront (option_map (λ name. name.now) log.entry) (log_text (trace_of (simulated code.now events.now).closed)))) }
+    ensures whole { IfOk result (λ _. Appends (S.written out.old) (S.written out.new)
+        (text_of false (machine_meaning code.now SIM_FUEL).events)) }
+    ensures told { IfOk result (λ _. Told (F.holds files.old) (F.holds files.new)
+        (Logs (option_map (λ name. name.now) log.entry) (log_text (trace_of (simulated code.now events.now).closed)))) }
+    ensures prefix { OnErr result (AppendsPrefix (S.written out.old) (S.written out.new)
+        (text_of false (machine_meaning code.now SIM_FUEL).events)) }
+    ensures front { OnErr result (Told (F.holds files.old) (F.holds files.new)
+        (LogsFront (option_map (λ name. name.now) log.entry) (log_text (trace_of (simulated code.now events.now).closed)))) }
     ensures created { StaysTrue (F.created files.old) (F.created files.new) }
     ensures files_later { F.faults files.old ≤ F.faults files.new }
     ensures out_later { S.faults out.old ≤ S.faults out.new }

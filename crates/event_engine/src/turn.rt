@@ -27,7 +27,8 @@ fn claim<N: JobName>(modes: &mut [Mode; 32], core: &mut Core<N>, who: u8)
     requires who { who < CALLER }
     requires below { AreAtBelow (size_of N.job) modes.old }
     requires alone { NoCaller core.old }
-    ensures turn { (ds : List world.Delivery) → turn_at core.new modes.new ds ≡ world.turn_of N.job (event.Claim who) (turn_at core.old modes.old ds) }
+    ensures turn { (ds : List world.Delivery) → turn_at core.new modes.new ds ≡ world.turn_of N.job (event.Claim who)
+        (turn_at core.old modes.old ds) }
     ensures below { AreAtBelow (size_of N.job) modes.new }
     ensures alone { NoCaller core.new }
 {
@@ -73,7 +74,9 @@ fn finish<N: JobName>(
     requires count { length workers.old ≡ 32 }
     requires may { AllByRecursion (λ w. MayWork w job.now.image.now job.now.code.now) workers.old }
     requires below { AreAtBelow (size_of N.job) modes.old }
-    ensures turn { OnOk result ((h : History) (ds : List world.Delivery) → turn_at h modes.new (ds ++ fresh.new.items) ≡ world.turn_of N.job (event.Finish who) (turn_at h modes.old (ds ++ fresh.old.items))) }
+    ensures turn { OnOk result ((h : History) (ds : List world.Delivery)
+        → turn_at h modes.new (ds ++ fresh.new.items) ≡ world.turn_of N.job (event.Finish who)
+        (turn_at h modes.old (ds ++ fresh.old.items))) }
     ensures work { OnOk result (Work job.now.image.now job.now.code.now workers.old workers.new) }
     ensures below { OnOk result (AreAtBelow (size_of N.job) modes.new) }
 {
@@ -112,7 +115,8 @@ fn fetch<N: JobName>(
 /// A delivery of the open step arrives, where it is there.
 fn arrive_fresh<N: JobName>(fresh: &[Fresh<N>], core: &mut Core<N>, place: usize)
     requires alone { NoCaller core.old }
-    ensures turn { (modes : List AtMode) (ds : List world.Delivery) → turn_at core.new modes ds ≡ world.arrive_of N.job (slice_get fresh.now place) (turn_at core.old modes ds) }
+    ensures turn { (modes : List AtMode) (ds : List world.Delivery)
+        → turn_at core.new modes ds ≡ world.arrive_of N.job (slice_get fresh.now place) (turn_at core.old modes ds) }
     ensures alone { NoCaller core.new }
 {
     if let Some(one) = fresh.get(place) {
@@ -124,7 +128,8 @@ fn arrive_fresh<N: JobName>(fresh: &[Fresh<N>], core: &mut Core<N>, place: usize
 fn arrive<N: JobName>(older: &[Delivery], fresh: &[Fresh<N>], core: &mut Core<N>, number: u32)
     requires older { AllByRecursion (λ d. d.step < N.job.number) older.now }
     requires alone { NoCaller core.old }
-    ensures turn { (modes : List AtMode) → turn_at core.new modes (older.now ++ fresh.now) ≡ world.turn_of N.job (event.Arrive number) (turn_at core.old modes (older.now ++ fresh.now)) }
+    ensures turn { (modes : List AtMode) → turn_at core.new modes (older.now ++ fresh.now) ≡ world.turn_of N.job (event.Arrive number)
+        (turn_at core.old modes (older.now ++ fresh.now)) }
     ensures alone { NoCaller core.new }
 {
     if number == 0 {
@@ -155,7 +160,8 @@ pub fn turn<N: JobName>(
     requires below { AreAtBelow (size_of N.job) modes.old }
     requires older { AllByRecursion (λ d. d.step < N.job.number) older.now }
     requires alone { NoCaller core.old }
-    ensures turn { OnOk result (turn_at core.new modes.new (older.now ++ fresh.new.items) ≡ world.turn_of N.job event (turn_at core.old modes.old (older.now ++ fresh.old.items))) }
+    ensures turn { OnOk result (turn_at core.new modes.new (older.now ++ fresh.new.items) ≡ world.turn_of N.job event
+        (turn_at core.old modes.old (older.now ++ fresh.old.items))) }
     ensures work { OnOk result (Work job.now.image.now job.now.code.now workers.old workers.new) }
     ensures below { OnOk result (AreAtBelow (size_of N.job) modes.new) }
     ensures alone { OnOk result (NoCaller core.new) }

@@ -9,7 +9,8 @@ use Rattle.cal_base.specs.Main.{Main, Ends, Shows, Opens, Event as Shown, Line, 
 use Rattle.step_laws.proofs.StepLaws.{merged_is_meant}
 use Rattle.step_laws.proofs.Caller.{completed_is_whole}
 use Rattle.event_world.specs.declared.event.Event.{Event}
-use Rattle.event_world.specs.World.{Mode, Delivery, Phase, Open, Over, Run, ClosedStep, is_complete, closing, run_on, settled, State, Turn, turn_of, after_turn, apply_in, apply, apply_all, first_state, completed, finish_main, finish_in}
+use Rattle.event_world.specs.World.{Mode, Delivery, Phase, Open, Over, Run, ClosedStep, is_complete, closing, run_on, settled, State, Turn, turn_of, after_turn, apply_in, apply, apply_all}
+use Rattle.event_world.specs.World.{first_state, completed, finish_main, finish_in}
 use Rattle.event_world.specs.Law.{Each, IsOfWorker, IsMeant, WorldIsOfTheMeaning}
 use Rattle.event_world.proofs.Turns.{TurnFits, turn_fits}
 use Rattle.event_world.proofs.Meant.{PhaseFits, TurnIn, StateFits, completes, first_fits, apply_fits, apply_all_fits, world_is_meant}
@@ -160,7 +161,8 @@ apply_all_same main (e ∷ events) one other workers fits same =
 -- ---- the caller
 
 closed_same : (job : StepJob) (history : History) → IsLegal job history → IsComplete job history → (one other : Memory → Run)
-    → ((later : Memory) → meant job ≡ Ok later → (one later).closed ≡ (other later).closed) → (closing job history (merged job history) one).closed ≡ (closing job history (merged job history) other).closed
+    → ((later : Memory) → meant job ≡ Ok later → (one later).closed ≡ (other later).closed)
+    → (closing job history (merged job history) one).closed ≡ (closing job history (merged job history) other).closed
 closed_same job history legal complete one other same =
     subst (λ r. (closing job history r one).closed ≡ (closing job history r other).closed) (sym (merged_is_meant job history legal complete)) (by_result (meant job) refl)
   where

@@ -174,7 +174,8 @@ first_arrives : apply (event.Arrive 1) (swapping back both_claimed both_free ans
 unfolding lightest_below
 first_arrives = simp first_alone
 
-first_again : apply (event.Arrive 1) (swapping back (both_claimed ++ Arrive 0 1 0 First ∷ []) both_free answers_of_both) ≡ swapping back (both_claimed ++ Arrive 0 1 0 First ∷ Arrive 0 1 0 Again ∷ []) both_free answers_of_both
+first_again : apply (event.Arrive 1) (swapping back (both_claimed ++ Arrive 0 1 0 First ∷ []) both_free answers_of_both) ≡ swapping back (both_claimed ++ Arrive 0 1 0 First ∷ Arrive 0 1 0 Again ∷ [])
+    both_free answers_of_both
 unfolding lightest_below
 first_again = simp first_alone
 
@@ -324,7 +325,8 @@ arrives_3 : apply (event.Arrive 2) (four (four_claims ++ Arrive 2 1 2 First ∷ 
 unfolding lightest_below
 arrives_3 = simp two_writers
 
-arrives_1 : apply (event.Arrive 3) (four (four_claims ++ Arrive 2 1 2 First ∷ Arrive 3 1 3 First ∷ []) modes_7 all_three) ≡ four (four_claims ++ Arrive 2 1 2 First ∷ Arrive 3 1 3 First ∷ Arrive 1 1 1 First ∷ []) modes_7 all_three
+arrives_1 : apply (event.Arrive 3) (four (four_claims ++ Arrive 2 1 2 First ∷ Arrive 3 1 3 First ∷ []) modes_7 all_three) ≡ four
+    (four_claims ++ Arrive 2 1 2 First ∷ Arrive 3 1 3 First ∷ Arrive 1 1 1 First ∷ []) modes_7 all_three
 unfolding lightest_below
 arrives_1 = simp three_writers
 

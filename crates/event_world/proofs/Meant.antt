@@ -11,7 +11,8 @@ use Rattle.step_laws.specs.Laws.{IsRightClaim}
 use Rattle.step_laws.proofs.StepLaws.{claims_are_right, merged_is_meant}
 use Rattle.event_world.specs.declared.event.Event.{Event}
 use Rattle.cal_base.specs.Main.{Main, Ends, Shows, Opens, Line, step_event, Meaning, going_on, meaning_of, steps_behind, steps_of, IsNumbered}
-use Rattle.event_world.specs.World.{Mode, Idle, Busy, Stopped, Delivery, Phase, Open, Over, Run, is_all_done, is_complete, closing, run_on, settled, State, freed, Turn, after_turn, apply_in, apply, apply_all, first_state, completed, finish_main, finish_in}
+use Rattle.event_world.specs.World.{Mode, Idle, Busy, Stopped, Delivery, Phase, Open, Over, Run, is_all_done, is_complete, closing, run_on, settled, State, freed, Turn, after_turn, apply_in, apply}
+use Rattle.event_world.specs.World.{apply_all, first_state, completed, finish_main, finish_in}
 use Rattle.event_world.specs.Law.{Each, jobs_in, IsOfWorker, IsWhole, WorldIsMeant}
 use Rattle.step_laws.proofs.Caller.{completed_is_whole}
 use Rattle.step_laws.proofs.Closed.{each_append, jobs_in-append}
@@ -96,9 +97,11 @@ module _ (job : StepJob) (next : Memory → Main) (history : History) (legal : I
   whole_step = record { legal = legal; complete = complete }
 
   -- a step that is closed leaves what it means
-  closing_fits : (steps : ℕ) (run : Memory → Run) → steps ≤ job.number → ((memory : Memory) → RunFits job.number (run memory) (meaning_of (next memory)) (steps_of (next memory))) → RunFits steps (closing job history (merged job history) run) (going_on job (meant job) (λ later. meaning_of (next later))) (job ∷ steps_behind (meant job) (λ later. steps_of (next later)))
+  closing_fits : (steps : ℕ) (run : Memory → Run) → steps ≤ job.number → ((memory : Memory) → RunFits job.number (run memory) (meaning_of (next memory)) (steps_of (next memory)))
+      → RunFits steps (closing job history (merged job history) run) (going_on job (meant job) (λ later. meaning_of (next later))) (job ∷ steps_behind (meant job) (λ later. steps_of (next later)))
   closing_fits steps run le fits =
-      subst (λ r. RunFits steps (closing job history r run) (going_on job (meant job) (λ later. meaning_of (next later))) (job ∷ steps_behind (meant job) (λ later. steps_of (next later)))) (sym (merged_is_meant job history legal complete)) (by_result (meant job))
+      subst (λ r. RunFits steps (closing job history r run) (going_on job (meant job) (λ later. meaning_of (next later))) (job ∷ steps_behind (meant job) (λ later. steps_of (next later))))
+      (sym (merged_is_meant job history legal complete)) (by_result (meant job))
     where
       by_result : (r : Result Memory StepFault) → RunFits steps (closing job history r run) (going_on job r (λ later. meaning_of (next later))) (job ∷ steps_behind r (λ later. steps_of (next later)))
       by_result (Ok later) = record {
@@ -110,7 +113,8 @@ module _ (job : StepJob) (next : Memory → Main) (history : History) (legal : I
       }
       by_result (Err fault) = record { shown = refl; ending = refl; jobs_are = refl; whole = (whole_step, tt); phase = tt }
 
-closing_fresh : (job : StepJob) (history : History) (r : Result Memory StepFault) (run : Memory → Run) → ((memory : Memory) → IsFresh job.number (run memory).phase) → IsFresh job.number (closing job history r run).phase
+closing_fresh : (job : StepJob) (history : History) (r : Result Memory StepFault) (run : Memory → Run) → ((memory : Memory) → IsFresh job.number (run memory).phase)
+    → IsFresh job.number (closing job history r run).phase
 closing_fresh job history (Ok later) run fresh = fresh later
 closing_fresh job history (Err fault) run fresh = λ modes deliveries idle older. tt
 
@@ -122,7 +126,9 @@ run_on_fits steps (Shows bytes main) numbered =
     record { shown = ap (λ more. Line bytes ∷ more) fits.shown; ending = fits.ending; jobs_are = fits.jobs_are; whole = fits.whole; phase = fits.phase }
 run_on_fits steps (Opens job next) numbered =
     let later : (memory : Memory) → IsNumbered job.number (next memory) = λ memory. subst (λ n. IsNumbered n (next memory)) (sym numbered.0) (numbered.2 memory) in
-    elim (is_complete job []) as (λ b. is_complete job [] ≡ b → RunFits steps (cond b (closing job [] (merged job []) (λ memory. run_on (next memory))) (record { shown = []; closed = []; phase = Open job next [] })) (going_on job (meant job) (λ memory. meaning_of (next memory))) (job ∷ steps_behind (meant job) (λ memory. steps_of (next memory)))) [
+    elim (is_complete job []) as (λ b. is_complete job [] ≡ b → RunFits steps (cond b (closing job [] (merged job []) (λ memory. run_on (next memory)))
+    (record { shown = []; closed = []; phase = Open job next [] })) (going_on job (meant job) (λ memory. meaning_of (next memory)))
+    (job ∷ steps_behind (meant job) (λ memory. steps_of (next memory)))) [
       | true ↦ λ e. closing_fits job next [] tt (completes job [] e) steps (λ memory. run_on (next memory)) (omega (arith, numbered.0)) (λ memory. run_on_fits job.number (next memory) (later memory))
       | false ↦ λ e. record { shown = refl; ending = refl; jobs_are = refl; whole = tt; phase = record { number = omega (arith, numbered.0); small = numbered.1; later = later } }
     ] refl
@@ -161,15 +167,20 @@ module _ (main : Main) (run : Run) (job : StepJob) (next : Memory → Main) (tur
     (whole : Each IsWhole run.closed) (opens : OpenFits 0 job next) (fits : TurnFits job turn) where
   settled_fits : RunFits 0 (settled job next turn.history) (going_on job (meant job) (λ later. meaning_of (next later))) (job ∷ steps_behind (meant job) (λ later. steps_of (next later)))
   settled_fits =
-      elim (is_complete job turn.history) as (λ b. is_complete job turn.history ≡ b → RunFits 0 (cond b (closing job turn.history (merged job turn.history) (λ memory. run_on (next memory))) (record { shown = []; closed = []; phase = Open job next turn.history })) (going_on job (meant job) (λ later. meaning_of (next later))) (job ∷ steps_behind (meant job) (λ later. steps_of (next later)))) [
-        | true ↦ λ e. closing_fits job next turn.history fits.legal (completes job turn.history e) 0 (λ memory. run_on (next memory)) (omega arith) (λ memory. run_on_fits job.number (next memory) (opens.later memory))
+      elim (is_complete job turn.history) as (λ b. is_complete job turn.history ≡ b → RunFits 0
+      (cond b (closing job turn.history (merged job turn.history) (λ memory. run_on (next memory))) (record { shown = []; closed = []; phase = Open job next turn.history }))
+      (going_on job (meant job) (λ later. meaning_of (next later))) (job ∷ steps_behind (meant job) (λ later. steps_of (next later)))) [
+        | true ↦ λ e. closing_fits job next turn.history fits.legal (completes job turn.history e) 0 (λ memory. run_on (next memory)) (omega arith)
+            (λ memory. run_on_fits job.number (next memory) (opens.later memory))
         | false ↦ λ e. record { shown = refl; ending = refl; jobs_are = refl; whole = tt; phase = opens }
       ] refl
 
   settled_turn : TurnIn (settled job next turn.history).phase (cond (is_complete job turn.history) (λ w. freed (turn.modes w)) turn.modes) turn.deliveries
   settled_turn =
-      elim (is_complete job turn.history) as (λ b. TurnIn (cond b (closing job turn.history (merged job turn.history) (λ memory. run_on (next memory))) (record { shown = []; closed = []; phase = Open job next turn.history })).phase (cond b (λ w. freed (turn.modes w)) turn.modes) turn.deliveries) [
-        | true ↦ closing_fresh job turn.history (merged job turn.history) (λ memory. run_on (next memory)) (λ memory. run_on_fresh job.number (next memory) (opens.later memory)) (λ w. freed (turn.modes w)) turn.deliveries (λ w. freed_idle (turn.modes w)) (made_older job turn.deliveries fits.deliveries)
+      elim (is_complete job turn.history) as (λ b. TurnIn (cond b (closing job turn.history (merged job turn.history) (λ memory. run_on (next memory)))
+      (record { shown = []; closed = []; phase = Open job next turn.history })).phase (cond b (λ w. freed (turn.modes w)) turn.modes) turn.deliveries) [
+        | true ↦ closing_fresh job turn.history (merged job turn.history) (λ memory. run_on (next memory)) (λ memory. run_on_fresh job.number (next memory) (opens.later memory))
+            (λ w. freed (turn.modes w)) turn.deliveries (λ w. freed_idle (turn.modes w)) (made_older job turn.deliveries fits.deliveries)
         | false ↦ fits
       ]
 
@@ -181,7 +192,8 @@ module _ (main : Main) (run : Run) (job : StepJob) (next : Memory → Main) (tur
         run = record {
           shown = append_assoc run.shown more.shown (rest_of more.phase).events ∙ (ap (λ rest. run.shown ++ rest) step.shown ∙ so_far);
           ending = step.ending ∙ ends;
-          jobs_are = ap (λ js. js ++ steps_left more.phase) (jobs_in-append run.closed more.closed) ∙ (append_assoc (jobs_in run.closed) (jobs_in more.closed) (steps_left more.phase) ∙ (ap (λ rest. jobs_in run.closed ++ rest) step.jobs_are ∙ jobs));
+          jobs_are = ap (λ js. js ++ steps_left more.phase) (jobs_in-append run.closed more.closed)
+              ∙ (append_assoc (jobs_in run.closed) (jobs_in more.closed) (steps_left more.phase) ∙ (ap (λ rest. jobs_in run.closed ++ rest) step.jobs_are ∙ jobs));
           whole = each_append IsWhole run.closed more.closed whole step.whole;
           phase = step.phase;
         };
@@ -196,7 +208,8 @@ apply_fits main e state worker fits = by_phase state.run.phase refl
     by_phase (Open job next history) is =
         let opens : OpenFits 0 job next = subst (PhaseFits 0) is fits.run.phase in
         let turn : TurnFits job (record { history = history; modes = state.modes; deliveries = state.deliveries }) = subst (λ p. TurnIn p state.modes state.deliveries) is fits.turn in
-        after_turn_fits main state.run job next _ (ap (λ p. state.run.shown ++ (rest_of p).events) (sym is) ∙ fits.run.shown) (ap (λ p. jobs_in state.run.closed ++ steps_left p) (sym is) ∙ fits.run.jobs_are) (ap (λ p. (rest_of p).ending) (sym is) ∙ fits.run.ending) fits.run.whole opens
+        after_turn_fits main state.run job next _ (ap (λ p. state.run.shown ++ (rest_of p).events) (sym is) ∙ fits.run.shown)
+        (ap (λ p. jobs_in state.run.closed ++ steps_left p) (sym is) ∙ fits.run.jobs_are) (ap (λ p. (rest_of p).ending) (sym is) ∙ fits.run.ending) fits.run.whole opens
         (turn_fits job opens.small (record { history = history; modes = state.modes; deliveries = state.deliveries }) turn e worker)
 
 pub apply_all_fits : (main : Main) (events : List Event) (state : State) → Each IsOfWorker events → StateFits main state → StateFits main (apply_all events state)
@@ -212,9 +225,12 @@ record RunEnds (run : Run) (meaning : Meaning) (jobs : List StepJob) : Type 0 wh
   ending : run.phase ≡ Over meaning.ending
   whole : Each IsWhole run.closed
 
-closing_ends : (job : StepJob) (next : Memory → Main) (history : History) → IsLegal job history → IsComplete job history → (run : Memory → Run) → ((memory : Memory) → RunEnds (run memory) (meaning_of (next memory)) (steps_of (next memory))) → RunEnds (closing job history (merged job history) run) (going_on job (meant job) (λ later. meaning_of (next later))) (job ∷ steps_behind (meant job) (λ later. steps_of (next later)))
+closing_ends : (job : StepJob) (next : Memory → Main) (history : History) → IsLegal job history → IsComplete job history → (run : Memory → Run)
+    → ((memory : Memory) → RunEnds (run memory) (meaning_of (next memory)) (steps_of (next memory)))
+    → RunEnds (closing job history (merged job history) run) (going_on job (meant job) (λ later. meaning_of (next later))) (job ∷ steps_behind (meant job) (λ later. steps_of (next later)))
 closing_ends job next history legal complete run ends =
-    subst (λ r. RunEnds (closing job history r run) (going_on job (meant job) (λ later. meaning_of (next later))) (job ∷ steps_behind (meant job) (λ later. steps_of (next later)))) (sym (merged_is_meant job history legal complete)) (by_result (meant job))
+    subst (λ r. RunEnds (closing job history r run) (going_on job (meant job) (λ later. meaning_of (next later))) (job ∷ steps_behind (meant job) (λ later. steps_of (next later))))
+    (sym (merged_is_meant job history legal complete)) (by_result (meant job))
   where
     by_result : (r : Result Memory StepFault) → RunEnds (closing job history r run) (going_on job r (λ later. meaning_of (next later))) (job ∷ steps_behind r (λ later. steps_of (next later)))
     by_result (Ok later) = record {

@@ -72,7 +72,8 @@ module _ (job : StepJob) (small : size_of job ≤ 65536) (turn : Turn) (fits : T
       }
   finish_fits who worker Stopped e = fits
 
-  entered : (d : Delivery) → DeliveryFits job d → (verdict : Verdict) → verdict_on job turn.history d.who d.step d.k ≡ verdict → verdict ≢ Full → TurnFits job (record turn { history = turn.history ++ Arrive d.who d.step d.k verdict ∷ [] })
+  entered : (d : Delivery) → DeliveryFits job d → (verdict : Verdict) → verdict_on job turn.history d.who d.step d.k ≡ verdict → verdict ≢ Full
+      → TurnFits job (record turn { history = turn.history ++ Arrive d.who d.step d.k verdict ∷ [] })
   entered d fit verdict judged other =
       let may : MayArrive job turn.history d.who d.step d.k verdict =
       record {

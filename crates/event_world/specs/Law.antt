@@ -30,5 +30,6 @@ WorldIsMeant = (main : Main) (events : List Event) → IsNumbered 0 main → Eac
 -- the world depends on what the program means and on the steps that it opens alone: programs that have these in common have the same world
 abbrev pub WorldIsOfTheMeaning : Type 0
 WorldIsOfTheMeaning =
-    (one other : Main) (events : List Event) → IsNumbered 0 one → IsNumbered 0 other → Each IsOfWorker events → meaning_of one ≡ meaning_of other → steps_of one ≡ steps_of other
+    (one other : Main) (events : List Event) → IsNumbered 0 one → IsNumbered 0 other → Each IsOfWorker events
+    → meaning_of one ≡ meaning_of other → steps_of one ≡ steps_of other
     → world one events ≡ world other events

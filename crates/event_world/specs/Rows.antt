@@ -149,7 +149,8 @@ two_quiet_steps = Opens (quiet 1) (λ memory. Opens (quiet 2) (λ later. Ends (D
 abbrev pub SkippedEvents : Type 0
 SkippedEvents =
     Becomes two_quiet_steps
-    (event.Arrive 2 ∷ event.Finish 0 ∷ event.Fetch 0 7 ∷ event.Claim 0 ∷ event.Claim 0 ∷ event.Finish 0 ∷ event.Arrive 0 ∷ event.Arrive 1 ∷ [])
+    (event.Arrive 2 ∷ event.Finish 0 ∷ event.Fetch 0 7 ∷ event.Claim 0 ∷ event.Claim 0 ∷ event.Finish 0 ∷ event.Arrive 0 ∷ event.Arrive 1
+    ∷ [])
     (Step 1 1 [] [] ∷ Step 2 1 [] [] ∷ [])
     ((Claim 0 0 ∷ Arrive 0 1 0 First ∷ []) ∷ (Claim CALLER 0 ∷ Arrive CALLER 2 0 First ∷ []) ∷ [])
     (Done 2)

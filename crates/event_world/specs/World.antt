@@ -1,5 +1,6 @@
 -- What a program does where its workers do what a list of events says, and the caller does the rest.
-use Rattle.std.specs.Prelude.{ℕ, ◌-◌, ◌==◌, nat_lt, Bool, true, false, if◌then◌else◌, List, [], ◌∷◌, ◌++◌, Option, Some, None, Result, Ok, Err, slice_get}
+use Rattle.std.specs.Prelude.{ℕ, ◌-◌, ◌==◌, nat_lt, Bool, true, false, if◌then◌else◌, List, [], ◌∷◌, ◌++◌, Option, Some, None, Result, Ok}
+use Rattle.std.specs.Prelude.{Err, slice_get}
 use Rattle.cal_base.specs.declared.step.TheConstants.{CALLER}
 use Rattle.cal_base.specs.declared.step.Verdict.{Verdict}
 use Rattle.cal_base.specs.declared.step.Claimed.{Claimed}
@@ -189,7 +190,8 @@ finish_main (Opens job next) = closing job (completed job []) (merged job (compl
 -- the caller completes the open step, and each later one
 abbrev pub finish_in : Phase → Run
 finish_in (Over ending) = record { shown = []; closed = []; phase = Over ending }
-finish_in (Open job next history) = closing job (completed job history) (merged job (completed job history)) (λ later. finish_main (next later))
+finish_in (Open job next history) = closing job (completed job history) (merged job (completed job history))
+    (λ later. finish_main (next later))
 
 -- what the program shows, the steps with their histories, and where it stands: at its end
 abbrev pub world : Main → List Event → Run

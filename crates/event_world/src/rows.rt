@@ -1,6 +1,9 @@
 //! Worked examples of worlds. They are the contract of a function that does nothing.
 
-ghost use Rattle.event_world.specs.Rows.{NobodyWorks, WorkerStops, RepeatedAndLate, ConflictInOrderOfNumbers, LaterFaultFirst, SkippedEvents, ClaimIsDropped, LateAnswerCountsForNothing, StoppedWorkerDelivers, StoppedStaysStopped, FinishedIsIdle, SpentIsIdle, EmptyStepIsPassed, FullIsNotEntered, UnaskedFillAStep};
+ghost use Rattle.event_world.specs.Rows.{NobodyWorks, WorkerStops, RepeatedAndLate, ConflictInOrderOfNumbers, LaterFaultFirst};
+ghost use Rattle.event_world.specs.Rows.{SkippedEvents, ClaimIsDropped, LateAnswerCountsForNothing, StoppedWorkerDelivers};
+ghost use Rattle.event_world.specs.Rows.{StoppedStaysStopped, FinishedIsIdle, SpentIsIdle, EmptyStepIsPassed, FullIsNotEntered};
+ghost use Rattle.event_world.specs.Rows.{UnaskedFillAStep};
 
 /// Each example is a small program, a list of events, what is shown, the steps' histories and the end.
 pub fn worked_worlds()

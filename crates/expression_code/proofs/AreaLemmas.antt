@@ -23,7 +23,8 @@ kept {X} f name other x there = by (f other) refl (bytes_eq name other) refl
     by None p true q = let never : false ≡ true = sym (ap is_some p) ∙ sym (ap (λ n. is_some (f n)) ((bytes_eq-Decides name other).0 q)) ∙ there in cc
 
 -- one more name
-pub added : {X : Type 0} (f g : Text → Option X) (name other : Text) (x : X) → f name ≡ None → g other ≡ cond (bytes_eq name other) (Some x) (f other) → g other ≡ option_or (f other) (if bytes_eq name other then Some x else None)
+pub added : {X : Type 0} (f g : Text → Option X) (name other : Text) (x : X) → f name ≡ None → g other ≡ cond (bytes_eq name other) (Some x) (f other)
+    → g other ≡ option_or (f other) (if bytes_eq name other then Some x else None)
 added {X} f g name other x absent e = e ∙ by (f other) refl (bytes_eq name other) refl
   where
     by : (o : Option X) → f other ≡ o → (b : Bool) → bytes_eq name other ≡ b → cond b (Some x) o ≡ option_or o (if b then Some x else None)

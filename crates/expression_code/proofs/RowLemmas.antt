@@ -8,7 +8,8 @@ use Rattle.csl_tree.specs.declared.program.Arm.{Arm, out-Arm, is-Arm'}
 use Rattle.csl_tree.specs.declared.program.RoutineBlock.{RoutineBlock}
 use Rattle.csl_tree.specs.declared.program.Form.{Form, Declare, more_of-Arm}
 use Rattle.csl_tree.specs.declared.program.Form.TheVariants as form
-use Rattle.csl_tree.specs.declared.program.Form.TheBlock.{shape-the_row-Stmt-1, hidden-the_row-Stmt-1, shape-the_row-Stmt-2, hidden-the_row-Stmt-2, shape-the_row-Arm-0, hidden-the_row-Arm-0, shape-the_row-RoutineBlock-3, hidden-the_row-RoutineBlock-3}
+use Rattle.csl_tree.specs.declared.program.Form.TheBlock.{shape-the_row-Stmt-1, hidden-the_row-Stmt-1, shape-the_row-Stmt-2, hidden-the_row-Stmt-2, shape-the_row-Arm-0, hidden-the_row-Arm-0}
+use Rattle.csl_tree.specs.declared.program.Form.TheBlock.{shape-the_row-RoutineBlock-3, hidden-the_row-RoutineBlock-3}
 use Rattle.csl_meaning.specs.Effect.{blocks_in}
 use Rattle.compiled_code.specs.Slots.{Slots}
 use Rattle.compiled_code.specs.Sizes.{kinds_in, kinds_in_row, kinds_in_arms}
@@ -74,10 +75,12 @@ pub kinds_if_some : (f : Form) (arms : List Arm) (last : Option (List Stmt)) (bo
 kinds_if_some f arms last body e some = kinds_if f arms last e ∙ ap (λ l. kinds_of_arms arms ++ kinds_of_last l) some
 
 -- how many locals they are
-pub count_for : (f : Form) (first : Stmt) (test : Expr) (next : Stmt) (body : List Stmt) → f ≡ form.For first test next body → length (kinds_in f) ≡ length (kinds_in first.form) + length (kinds_of body)
+pub count_for : (f : Form) (first : Stmt) (test : Expr) (next : Stmt) (body : List Stmt) → f ≡ form.For first test next body
+    → length (kinds_in f) ≡ length (kinds_in first.form) + length (kinds_of body)
 count_for f first test next body e = ap length (kinds_for f first test next body e) ∙ length-append (kinds_in first.form) (kinds_of body)
 
-pub count_if_some : (f : Form) (arms : List Arm) (last : Option (List Stmt)) (body : List Stmt) → f ≡ form.If arms last → last ≡ Some body → length (kinds_in f) ≡ length (kinds_of_arms arms) + length (kinds_of body)
+pub count_if_some : (f : Form) (arms : List Arm) (last : Option (List Stmt)) (body : List Stmt) → f ≡ form.If arms last → last ≡ Some body
+    → length (kinds_in f) ≡ length (kinds_of_arms arms) + length (kinds_of body)
 count_if_some f arms last body e some = ap length (kinds_if_some f arms last body e some) ∙ length-append (kinds_of_arms arms) (kinds_of body)
 
 -- ---- routine blocks

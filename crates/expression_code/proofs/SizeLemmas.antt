@@ -56,11 +56,14 @@ size_add_element slots q e index is = ap (λ p. adding_size slots p e) (is-Place
 pub sizes_next : (args : List Expr) (k : ℕ) (e : Expr) → k < length args → e ≡ get_or args k e → sizes_of (drop k args) ≡ size_of e + sizes_of (drop (k + 1) args)
 sizes_next args k e within at = ap sizes_of (next_item args k e within at)
 
-pub items_next_text : (items : List Item) (k : ℕ) (it : Item) (name : Name) → k < length items → it ≡ get_or items k it → it ≡ item.Text name → items_size (drop k items) ≡ items_size (drop (k + 1) items)
+pub items_next_text : (items : List Item) (k : ℕ) (it : Item) (name : Name) → k < length items → it ≡ get_or items k it → it ≡ item.Text name
+    → items_size (drop k items) ≡ items_size (drop (k + 1) items)
 items_next_text items k it name within at is = ap items_size (next_item items k it within at) ∙ ap (λ x. items_size (x ∷ drop (k + 1) items)) is
 
-pub items_next_value : (items : List Item) (k : ℕ) (it : Item) (e : Expr) → k < length items → it ≡ get_or items k it → it ≡ item.Value e → items_size (drop k items) ≡ size_of e + items_size (drop (k + 1) items)
+pub items_next_value : (items : List Item) (k : ℕ) (it : Item) (e : Expr) → k < length items → it ≡ get_or items k it → it ≡ item.Value e
+    → items_size (drop k items) ≡ size_of e + items_size (drop (k + 1) items)
 items_next_value items k it e within at is = ap items_size (next_item items k it within at) ∙ ap (λ x. items_size (x ∷ drop (k + 1) items)) is
 
-pub widths_size_next : (blocks : List RoutineBlock) (k : ℕ) (b : RoutineBlock) → k < length blocks → b ≡ get_or blocks k b → widths_size (drop k blocks) ≡ size_of (out-RoutineBlock b).width + widths_size (drop (k + 1) blocks)
+pub widths_size_next : (blocks : List RoutineBlock) (k : ℕ) (b : RoutineBlock) → k < length blocks → b ≡ get_or blocks k b
+    → widths_size (drop k blocks) ≡ size_of (out-RoutineBlock b).width + widths_size (drop (k + 1) blocks)
 widths_size_next blocks k b within at = ap widths_size (next_item blocks k b within at) ∙ ap (λ x. widths_size (x ∷ drop (k + 1) blocks)) (is-RoutineBlock' b)

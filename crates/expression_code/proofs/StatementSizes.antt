@@ -72,7 +72,8 @@ module _ (p : Program) where
 
   -- the parts of a `for`, each in the scope in which it is measured
   pub for_parts : (f : Form) (first first' : Stmt) (test : Expr) (next next' : Stmt) (body body' : List Stmt) (slots : Slots) (slot : ℕ) (one two : Scoped) → f ≡ form.For first test next body
-      → first' ≡ first → next' ≡ next → body' ≡ body → one.slots ≡ slots_after slots slot first'.form → one.next ≡ slot + length (kinds_in first'.form) → two.slots ≡ one.slots → two.next ≡ one.next + length (kinds_of body')
+      → first' ≡ first → next' ≡ next → body' ≡ body → one.slots ≡ slots_after slots slot first'.form → one.next ≡ slot + length (kinds_in first'.form) → two.slots ≡ one.slots
+      → two.next ≡ one.next + length (kinds_of body')
       → form_size p f slots slot ≡ form_size p first'.form slots slot + size_of test + 1 + statements_size p body' one.slots one.next + form_size p next'.form two.slots two.next + 1
   for_parts f first first' test next next' body body' slots slot one two e first_is next_is body_is slots_is next_slot slots_stay next_more =
       let begins : one.next ≡ slot + length (kinds_in first.form) = next_slot ∙ ap (λ (s : Stmt). slot + length (kinds_in s.form)) first_is in

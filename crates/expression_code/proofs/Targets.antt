@@ -31,7 +31,8 @@ module _ (p : Program) (slots : Slots) (b : Expr) (l : List Instr) where
       let own = expr_length p slots b (length l + 1) in
       omega (arith, whole, own)
 
-  module _ (one two three four : List Instr) (no end : ℕ) (first : one ≡ l ++ i.Branch 0 ∷ []) (second : two ≡ one ++ code_of p slots b (length one)) (third : three ≡ two ++ i.Jump end ∷ []) (fourth : four ≡ three ++ i.False ∷ []) where
+  module _ (one two three four : List Instr) (no end : ℕ) (first : one ≡ l ++ i.Branch 0 ∷ []) (second : two ≡ one ++ code_of p slots b (length one)) (third : three ≡ two ++ i.Jump end ∷ [])
+      (fourth : four ≡ three ++ i.False ∷ []) where
     and_whole : four ≡ l ++ (i.Branch 0 ∷ (code_of p slots b (length l + 1) ++ i.Jump end ∷ i.False ∷ []))
     and_whole =
         let code : List Instr = code_of p slots b (length l + 1) in
@@ -40,7 +41,8 @@ module _ (p : Program) (slots : Slots) (b : Expr) (l : List Instr) where
         ∙ append_assoc l (i.Branch 0 ∷ code) (i.Jump end ∷ i.False ∷ [])
 
     -- the right operand of an `&&` is written
-    pub and_written : (new : List Instr) → no ≡ length two + 1 → end ≡ no + 1 → new ≡ slice_set four (length l) (i.Branch no) → new ≡ l ++ right_code And (length l) (size_of b) (λ at. code_of p slots b at)
+    pub and_written : (new : List Instr) → no ≡ length two + 1 → end ≡ no + 1 → new ≡ slice_set four (length l) (i.Branch no)
+        → new ≡ l ++ right_code And (length l) (size_of b) (λ at. code_of p slots b at)
     and_written new no_is end_is e =
         let long = behind_long (i.Branch 0) one two first second in
         let no_at : no ≡ length l + 1 + size_of b + 1 = omega (arith, long, no_is) in
@@ -50,14 +52,16 @@ module _ (p : Program) (slots : Slots) (b : Expr) (l : List Instr) where
         ∙ (λ j. l ++ (i.Branch (no_at j) ∷ (code_of p slots b (length l + 1) ++ i.Jump (end_at j) ∷ i.False ∷ [])))
 
 -- the right operand of an `||` is written
-module _ (p : Program) (slots : Slots) (b : Expr) (l one two three four : List Instr) (other : ℕ) (first : one ≡ l ++ i.Branch other ∷ []) (second : two ≡ one ++ i.True ∷ []) (third : three ≡ two ++ i.Jump 0 ∷ []) (fourth : four ≡ three ++ code_of p slots b (length three)) where
+module _ (p : Program) (slots : Slots) (b : Expr) (l one two three four : List Instr) (other : ℕ) (first : one ≡ l ++ i.Branch other ∷ []) (second : two ≡ one ++ i.True ∷ [])
+    (third : three ≡ two ++ i.Jump 0 ∷ []) (fourth : four ≡ three ++ code_of p slots b (length three)) where
   two_long : length two ≡ length l + 2
   two_long = let a = one_more l one (i.Branch other) first in let c = one_more one two i.True second in omega (arith, a, c)
 
   two_is : two ≡ l ++ i.Branch other ∷ i.True ∷ []
   two_is = second ∙ ap (λ c. c ++ i.True ∷ []) first ∙ append_assoc l (i.Branch other ∷ []) (i.True ∷ [])
 
-  pub or_written : (new : List Instr) (end : ℕ) → other ≡ length l + 3 → end ≡ length four → new ≡ slice_set four (length two) (i.Jump end) → new ≡ l ++ right_code Or (length l) (size_of b) (λ at. code_of p slots b at)
+  pub or_written : (new : List Instr) (end : ℕ) → other ≡ length l + 3 → end ≡ length four → new ≡ slice_set four (length two) (i.Jump end)
+      → new ≡ l ++ right_code Or (length l) (size_of b) (λ at. code_of p slots b at)
   or_written new end other_is end_is e =
       let long = behind_long p slots b two (i.Jump 0) three four third fourth in
       let short = two_long in

@@ -96,7 +96,8 @@ module _ (p : Program) where
   -- the number of instructions of several statements
   abbrev pub statements_size : List Stmt → Slots → ℕ → ℕ
   statements_size [] slots slot = 0
-  statements_size (s ∷ rest) slots slot = form_size p s.form slots slot + statements_size rest (slots_after slots slot s.form) (slot + length (kinds_in s.form))
+  statements_size (s ∷ rest) slots slot = form_size p s.form slots slot + statements_size rest (slots_after slots slot s.form)
+      (slot + length (kinds_in s.form))
 
   -- an arm of an `if`
   abbrev pub one_arm_size : Arm → Slots → ℕ → ℕ
@@ -117,7 +118,8 @@ module _ (p : Program) where
   for_loop_size first test next body slots slot =
       let inner = slots_after slots slot first in
       let begin = slot + length (kinds_in first) in
-      form_size p first slots slot + size_of test + 1 + statements_size body inner begin + form_size p next inner (begin + length (kinds_of body)) + 1
+      form_size p first slots slot + size_of test + 1 + statements_size body inner begin + form_size p next inner
+      (begin + length (kinds_of body)) + 1
 
   -- a statement behind the block of a loop, if there is one
   abbrev pub step_size : Option Form → Slots → ℕ → ℕ
@@ -145,7 +147,8 @@ module _ (p : Program) where
   -- one statement behind the other
   abbrev pub statements_code : List Stmt → Slots → At → Exits → List Instr
   statements_code [] slots at exits = []
-  statements_code (s ∷ rest) slots at exits = form_code p s.form slots at exits ++ statements_code rest (slots_after slots at.slot s.form) (beyond p slots at s.form) exits
+  statements_code (s ∷ rest) slots at exits = form_code p s.form slots at exits
+      ++ statements_code rest (slots_after slots at.slot s.form) (beyond p slots at s.form) exits
 
   -- the arms of an `if` that ends at this place
   abbrev pub all_arms_code : List Arm → Slots → At → Exits → ℕ → List Instr
@@ -166,7 +169,8 @@ module _ (p : Program) where
   while_code test body slots at =
       let back = at.place + size_of test + 1 + statements_size body slots at.slot in
       code_of p slots test at.place
-      ++ i.Branch (back + 1) ∷ statements_code body slots (past p at (size_of test + 1)) (record { on_break = back + 1; on_continue = back })
+      ++ i.Branch (back + 1) ∷ statements_code body slots (past p at (size_of test + 1))
+      (record { on_break = back + 1; on_continue = back })
       ++ i.Loop at.place ∷ []
 
   -- each statement has the shape that its code asks for

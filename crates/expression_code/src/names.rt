@@ -143,7 +143,8 @@ fn add_area(
     name: &Text,
     area: Area,
 ) -> Result<(), NoMemory>
-    ensures { OnOk result ((other : List ℕ) → area_among areas.new other ≡ option_or (area_among areas.old other) (if bytes_eq name.now other then Some area else None)) }
+    ensures { OnOk result ((other : List ℕ) → area_among areas.new other ≡ option_or (area_among areas.old other)
+        (if bytes_eq name.now other then Some area else None)) }
 {
     if areas.get(name.as_slice()).is_some() {
         return Ok(());
@@ -171,7 +172,8 @@ fn add_number(
     name: &Text,
     number: usize,
 ) -> Result<(), NoMemory>
-    ensures { OnOk result ((other : List ℕ) → place_among numbers.new other ≡ option_or (place_among numbers.old other) (if bytes_eq name.now other then Some number else None)) }
+    ensures { OnOk result ((other : List ℕ) → place_among numbers.new other ≡ option_or (place_among numbers.old other)
+        (if bytes_eq name.now other then Some number else None)) }
 {
     if numbers.get(name.as_slice()).is_some() {
         return Ok(());

@@ -5,7 +5,8 @@ ghost use Rattle.csl_tree.specs.declared.program.Arm.{out-Arm};
 ghost use Rattle.compiled_code.specs.Sizes as sizes;
 ghost use Rattle.std.specs.Option.{option_copied};
 ghost use Rattle.compiled_code.specs.Places as places;
-ghost use Rattle.expression_code.specs.Lists.{adding_size, sizes_of, statements_size, all_arms_size, slots_after_all, kinds_of, kinds_of_arms, one_arm_size, step_size};
+ghost use Rattle.expression_code.specs.Lists.{adding_size, sizes_of, statements_size, all_arms_size, slots_after_all, kinds_of};
+ghost use Rattle.expression_code.specs.Lists.{kinds_of_arms, one_arm_size, step_size};
 ghost use Rattle.expression_code.specs.Counts.{IsSmall};
 
 use crate::names::Names;
@@ -267,7 +268,8 @@ pub fn loop_sizes(
     requires room { IsSmall (scope.old.next + statements_size names.now body.now scope.old.slots scope.old.next
         + step_size names.now (option_copied next) scope.old.slots (scope.old.next + length (kinds_of body.now))) }
     ensures body { IfOk result (λ n. n.0 ≡ statements_size names.now body.now scope.old.slots scope.old.next) }
-    ensures next { IfOk result (λ n. n.1 ≡ step_size names.now (option_copied next.entry) scope.old.slots (scope.old.next + length (kinds_of body.now))) }
+    ensures next { IfOk result (λ n. n.1 ≡ step_size names.now (option_copied next.entry) scope.old.slots
+        (scope.old.next + length (kinds_of body.now))) }
     ensures same { OnOk result (scope.new ≡ scope.old) }
 {
     let mark = scope.mark();

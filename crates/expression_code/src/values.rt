@@ -119,7 +119,8 @@ fn push_right(
     b: &Expr,
 ) -> Result<(), NoMemory>
     requires { IsSmall (length instrs.old + size_of b.now + operator_size op) }
-    ensures { OnOk result (instrs.new ≡ instrs.old ++ right_code op (length instrs.old) (size_of b.now) (λ at. values.code_of names.now scope.now.slots b.now at)) }
+    ensures { OnOk result (instrs.new ≡ instrs.old ++ right_code op (length instrs.old) (size_of b.now)
+        (λ at. values.code_of names.now scope.now.slots b.now at)) }
 {
     match op {
         BinaryOp::And => push_and(instrs, names, scope, b),
@@ -141,7 +142,8 @@ fn push_and(
     b: &Expr,
 ) -> Result<(), NoMemory>
     requires { IsSmall (length instrs.old + size_of b.now + 3) }
-    ensures { OnOk result (instrs.new ≡ instrs.old ++ right_code And (length instrs.old) (size_of b.now) (λ at. values.code_of names.now scope.now.slots b.now at)) }
+    ensures { OnOk result (instrs.new ≡ instrs.old ++ right_code And (length instrs.old) (size_of b.now)
+        (λ at. values.code_of names.now scope.now.slots b.now at)) }
 {
     let branch = instrs.len();
     instrs.push(Instr::Branch(0))?;
@@ -163,7 +165,8 @@ fn push_or(
     b: &Expr,
 ) -> Result<(), NoMemory>
     requires { IsSmall (length instrs.old + size_of b.now + 3) }
-    ensures { OnOk result (instrs.new ≡ instrs.old ++ right_code Or (length instrs.old) (size_of b.now) (λ at. values.code_of names.now scope.now.slots b.now at)) }
+    ensures { OnOk result (instrs.new ≡ instrs.old ++ right_code Or (length instrs.old) (size_of b.now)
+        (λ at. values.code_of names.now scope.now.slots b.now at)) }
 {
     let other = length_of(instrs.len()) + 3;
     instrs.push(Instr::Branch(other))?;

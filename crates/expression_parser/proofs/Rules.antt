@@ -10,10 +10,12 @@ use Rattle.csl_tree.specs.declared.program.UnaryOp.{UnaryOp}
 use Rattle.csl_tree.specs.declared.program.BinaryOp.{BinaryOp}
 use Rattle.csl_tree.specs.declared.program.Expr.{Expr}
 use Rattle.csl_tree.specs.declared.program.Node.TheVariants as node
-use Rattle.csl_grammar.specs.Expressions.{SpellsExpr, SpellsChain, SpellsArguments, SpellsMore, chain, prefixed, number, truth, named, indexed, called, paren, ends, goes_on, nothing, something, no_more, more, level_of, mark_of, prefix_mark, truth_word, expr, binary, whole, place, call}
+use Rattle.csl_grammar.specs.Expressions.{SpellsExpr, SpellsChain, SpellsArguments, SpellsMore, chain, prefixed, number, truth, named, indexed, called, paren, ends, goes_on, nothing, something}
+use Rattle.csl_grammar.specs.Expressions.{no_more, more, level_of, mark_of, prefix_mark, truth_word, expr, binary, whole, place, call}
 use Rattle.csl_grammar.specs.Stops.{BeginsOtherThan, Stops, IsEnded}
 use Rattle.expression_parser.specs.Reading.{Found, Refused, IsToken, Returns, behind, stops_anywhere, SpellsClosed, SpellsMoreClosed}
-use Rattle.csl_grammar.proofs.Unique.{unique, unique_arguments, chain_stops, more_stops, stops_at, begins_clash, mark_of-same, prefix_mark-same, prefix_mark-open, truth_word-same, level_of-positive, not_closing}
+use Rattle.csl_grammar.proofs.Unique.{unique, unique_arguments, chain_stops, more_stops, stops_at, begins_clash, mark_of-same, prefix_mark-same, prefix_mark-open, truth_word-same, level_of-positive}
+use Rattle.csl_grammar.proofs.Unique.{not_closing}
 use Rattle.expression_parser.proofs.Sequence.{Cut, Sequence, Same, Passes}
 use Rattle.expression_parser.proofs.Single.{some_token}
 
@@ -25,10 +27,12 @@ stops_same level token xs ys s = record {
   no_operator = s.no_operator;
 }
 
-unique_expr : (level : ℕ) (tokens middle middle' : List Token) (e e' : Expr) → SpellsExpr level tokens middle e → SpellsExpr level tokens middle' e' → Stops level middle → Stops level middle' → (middle ≡ middle') × (e ≡ e')
+unique_expr : (level : ℕ) (tokens middle middle' : List Token) (e e' : Expr) → SpellsExpr level tokens middle e → SpellsExpr level tokens middle' e' → Stops level middle → Stops level middle'
+    → (middle ≡ middle') × (e ≡ e')
 unique_expr level tokens middle middle' e e' d d' s s' = unique d d' refl s s'
 
-level_cut : {below : ℕ} {tokens rest : List Token} {tree : Expr} → SpellsExpr (suc below) tokens rest tree → Stops (suc below) rest → Cut (SpellsExpr below) (Stops below) (λ first. SpellsChain below first) tokens rest tree
+level_cut : {below : ℕ} {tokens rest : List Token} {tree : Expr} → SpellsExpr (suc below) tokens rest tree → Stops (suc below) rest
+    → Cut (SpellsExpr below) (Stops below) (λ first. SpellsChain below first) tokens rest tree
 level_cut (chain d c) s = record { middle = _; part = _; one = d; stopped = chain_stops c s; two = c }
 
 -- an expression of a level is an operand and then a chain
@@ -43,7 +47,8 @@ level_rule below = record {
   some = λ part others. ends;
 }
 
-chain_cut : {below : ℕ} {left tree : Expr} {op : BinaryOp} {sign : Token} {tokens rest : List Token} {all : List Token} → SpellsChain below left all rest tree → all ≡ sign ∷ tokens → level_of op ≡ suc below → sign.kind ≡ kind.Mark (mark_of op) → Stops (suc below) rest → Cut (SpellsExpr below) (Stops below) (λ right. SpellsChain below (binary op left right)) tokens rest tree
+chain_cut : {below : ℕ} {left tree : Expr} {op : BinaryOp} {sign : Token} {tokens rest : List Token} {all : List Token} → SpellsChain below left all rest tree → all ≡ sign ∷ tokens
+    → level_of op ≡ suc below → sign.kind ≡ kind.Mark (mark_of op) → Stops (suc below) rest → Cut (SpellsExpr below) (Stops below) (λ right. SpellsChain below (binary op left right)) tokens rest tree
 chain_cut {op = op} ends e here same s = absurd (begins_clash _ (s.no_operator op (omega arith)) e same)
 chain_cut {below = below} {left = left} {tree = tree} {op = op} {tokens = tokens} {rest = rest} (goes_on {op = p} {tokens = w} {middle = m} {right = r} here' sign' d c) e here same s =
     let alike : p ≡ op = mark_of-same p op (cc) in
@@ -53,7 +58,8 @@ chain_cut {below = below} {left = left} {tree = tree} {op = op} {tokens = tokens
     record { middle = m; part = r; one = subst on at_tokens d; stopped = chain_stops c s; two = subst by alike c }
 
 -- a chain goes on with an operator, and then an operand and a chain
-pub chain_rule : (below : ℕ) (op : BinaryOp) (left : Expr) (sign : Token) → level_of op ≡ suc below → sign.kind ≡ kind.Mark (mark_of op) → Sequence (SpellsExpr below) (Stops below) (λ right. SpellsChain below (binary op left right)) (behind sign (SpellsChain below left)) (Stops (suc below))
+pub chain_rule : (below : ℕ) (op : BinaryOp) (left : Expr) (sign : Token) → level_of op ≡ suc below → sign.kind ≡ kind.Mark (mark_of op)
+    → Sequence (SpellsExpr below) (Stops below) (λ right. SpellsChain below (binary op left right)) (behind sign (SpellsChain below left)) (Stops (suc below))
 chain_rule below op left sign here same = record {
   join = λ tokens middle rest part tree d c. goes_on here same d c;
   cut = λ tokens rest tree d s. chain_cut d refl here same s;
@@ -84,7 +90,8 @@ returns_found tree stops tokens s ended = record {
   ended = ended;
 }
 
-pub returns_refused : {T : Type 0} (tree : T) (stops : List Token → Type 0) (tokens : List Token) (next : Token) (rest : List Token) → tokens ≡ next ∷ rest → ((others : List Token) → stops (next ∷ others) → ⊥) → Refused (Returns tree) stops tokens next.at
+pub returns_refused : {T : Type 0} (tree : T) (stops : List Token → Type 0) (tokens : List Token) (next : Token) (rest : List Token) → tokens ≡ next ∷ rest
+    → ((others : List Token) → stops (next ∷ others) → ⊥) → Refused (Returns tree) stops tokens next.at
 returns_refused tree stops tokens next rest split never = record {
   read = [];
   token = next;
@@ -113,8 +120,10 @@ closes_rule m known stops = record {
 }
 
 -- a sign, and then what no chain is
-prefixed_cut : {op : UnaryOp} {first : Token} {tokens rest all : List Token} {tree : Expr} → SpellsExpr 0 all rest tree → all ≡ first ∷ tokens → first.kind ≡ kind.Mark (prefix_mark op) → Stops 0 rest → Cut (SpellsExpr 0) (Stops 0) (λ inner. Returns (expr first.at (node.Unary op inner))) tokens rest tree
-prefixed_cut {op = op} {first = first} {tokens = tokens} {rest = rest} (prefixed {op = p} {tokens = w} {e = x} k d) e same s = let alike : p ≡ op = prefix_mark-same p op (cc) in let at_tokens : w ≡ tokens = cc in let on : List Token → Type 0 = λ y. SpellsExpr 0 y rest x in record { middle = rest; part = x; one = subst on at_tokens d; stopped = s; two = (refl, (cc alike)) }
+prefixed_cut : {op : UnaryOp} {first : Token} {tokens rest all : List Token} {tree : Expr} → SpellsExpr 0 all rest tree → all ≡ first ∷ tokens → first.kind ≡ kind.Mark (prefix_mark op) → Stops 0 rest
+    → Cut (SpellsExpr 0) (Stops 0) (λ inner. Returns (expr first.at (node.Unary op inner))) tokens rest tree
+prefixed_cut {op = op} {first = first} {tokens = tokens} {rest = rest} (prefixed {op = p} {tokens = w} {e = x} k d) e same s = let alike : p ≡ op = prefix_mark-same p op (cc) in let at_tokens : w ≡
+    tokens = cc in let on : List Token → Type 0 = λ y. SpellsExpr 0 y rest x in record { middle = rest; part = x; one = subst on at_tokens d; stopped = s; two = (refl, (cc alike)) }
 prefixed_cut {op = op} {first = first} {tokens = tokens} {rest = rest} (number {n = m} k) e same s = absurd (cc)
 prefixed_cut {op = op} {first = first} {tokens = tokens} {rest = rest} (truth {b = b} k) e same s = absurd (cc)
 prefixed_cut {op = op} {first = first} {tokens = tokens} {rest = rest} (named {name = v} k) e same s = absurd (cc)
@@ -122,7 +131,8 @@ prefixed_cut {op = op} {first = first} {tokens = tokens} {rest = rest} (indexed 
 prefixed_cut {op = op} {first = first} {tokens = tokens} {rest = rest} (called {opening = z} {closing = q} {tokens = w} {name = v} {args = x} k o d c) e same s = absurd (cc)
 prefixed_cut {op = op} {first = first} {tokens = tokens} {rest = rest} (paren {closing = q} {tokens = w} {e = x} k d c) e same s = absurd (prefix_mark-open op (cc))
 
-pub prefixed_rule : (op : UnaryOp) (first : Token) → first.kind ≡ kind.Mark (prefix_mark op) → Sequence (SpellsExpr 0) (Stops 0) (λ inner. Returns (expr first.at (node.Unary op inner))) (behind first (SpellsExpr 0)) (Stops 0)
+pub prefixed_rule : (op : UnaryOp) (first : Token) → first.kind ≡ kind.Mark (prefix_mark op)
+    → Sequence (SpellsExpr 0) (Stops 0) (λ inner. Returns (expr first.at (node.Unary op inner))) (behind first (SpellsExpr 0)) (Stops 0)
 prefixed_rule op first same = record {
   join = λ tokens middle rest part tree d r.
       let on : List Token → Type 0 = λ x. SpellsExpr 0 x rest part in
@@ -138,16 +148,19 @@ prefixed_rule op first same = record {
 }
 
 -- a parenthesis, and then an expression and the other one
-paren_cut : {first : Token} {tokens rest all : List Token} {tree : Expr} → SpellsExpr 0 all rest tree → all ≡ first ∷ tokens → first.kind ≡ kind.Mark mark.OpenParen → Stops 0 rest → Cut (SpellsExpr whole) (Stops whole) (λ inner. Closes mark.CloseParen (expr first.at (node.Paren inner))) tokens rest tree
+paren_cut : {first : Token} {tokens rest all : List Token} {tree : Expr} → SpellsExpr 0 all rest tree → all ≡ first ∷ tokens → first.kind ≡ kind.Mark mark.OpenParen → Stops 0 rest
+    → Cut (SpellsExpr whole) (Stops whole) (λ inner. Closes mark.CloseParen (expr first.at (node.Paren inner))) tokens rest tree
 paren_cut {first = first} {tokens = tokens} {rest = rest} (prefixed {op = p} {tokens = w} {e = x} k d) e same s = absurd (prefix_mark-open p (cc))
 paren_cut {first = first} {tokens = tokens} {rest = rest} (number {n = m} k) e same s = absurd (cc)
 paren_cut {first = first} {tokens = tokens} {rest = rest} (truth {b = b} k) e same s = absurd (cc)
 paren_cut {first = first} {tokens = tokens} {rest = rest} (named {name = v} k) e same s = absurd (cc)
 paren_cut {first = first} {tokens = tokens} {rest = rest} (indexed {opening = z} {closing = q} {tokens = w} {name = v} {index = x} k o d c) e same s = absurd (cc)
 paren_cut {first = first} {tokens = tokens} {rest = rest} (called {opening = z} {closing = q} {tokens = w} {name = v} {args = x} k o d c) e same s = absurd (cc)
-paren_cut {first = first} {tokens = tokens} {rest = rest} (paren {closing = q} {tokens = w} {e = x} k d c) e same s = let at_tokens : w ≡ tokens = cc in let on : List Token → Type 0 = λ y. SpellsExpr whole y (q ∷ rest) x in record { middle = q ∷ rest; part = x; one = subst on at_tokens d; stopped = stops_at c refl (λ h. cc) (λ h. cc); two = (q, refl, c, (cc)) }
+paren_cut {first = first} {tokens = tokens} {rest = rest} (paren {closing = q} {tokens = w} {e = x} k d c) e same s = let at_tokens : w ≡ tokens = cc in let on : List Token
+    → Type 0 = λ y. SpellsExpr whole y (q ∷ rest) x in record { middle = q ∷ rest; part = x; one = subst on at_tokens d; stopped = stops_at c refl (λ h. cc) (λ h. cc); two = (q, refl, c, (cc)) }
 
-pub paren_rule : (first : Token) → first.kind ≡ kind.Mark mark.OpenParen → Sequence (SpellsExpr whole) (Stops whole) (λ inner. Closes mark.CloseParen (expr first.at (node.Paren inner))) (behind first (SpellsExpr 0)) (Stops 0)
+pub paren_rule : (first : Token) → first.kind ≡ kind.Mark mark.OpenParen → Sequence (SpellsExpr whole) (Stops whole) (λ inner. Closes mark.CloseParen (expr first.at (node.Paren inner)))
+    (behind first (SpellsExpr 0)) (Stops 0)
 paren_rule first same = record {
   join = λ tokens middle rest part tree d r.
       let as_tree : Expr → Type 0 = λ x. SpellsExpr 0 (first ∷ tokens) rest x in
@@ -162,7 +175,8 @@ paren_rule first same = record {
 }
 
 -- a number
-number_cut : {n : ℤ} {first : Token} {tokens rest all : List Token} {tree : Expr} → SpellsExpr 0 all rest tree → all ≡ first ∷ tokens → first.kind ≡ kind.Number n → Stops 0 rest → (tokens ≡ rest) × (tree ≡ expr first.at (node.Number n))
+number_cut : {n : ℤ} {first : Token} {tokens rest all : List Token} {tree : Expr} → SpellsExpr 0 all rest tree → all ≡ first ∷ tokens → first.kind ≡ kind.Number n → Stops 0 rest
+    → (tokens ≡ rest) × (tree ≡ expr first.at (node.Number n))
 number_cut (prefixed {op = p} {tokens = w} {e = x} k d) e same s = absurd (cc)
 number_cut (number {n = m} k) e same s = ((cc), (cc))
 number_cut (truth {b = b} k) e same s = absurd (cc)
@@ -181,7 +195,8 @@ number_rule n first same = record {
 }
 
 -- a truth value
-truth_cut : {b : Bool} {first : Token} {tokens rest all : List Token} {tree : Expr} → SpellsExpr 0 all rest tree → all ≡ first ∷ tokens → first.kind ≡ kind.Word (truth_word b) → Stops 0 rest → (tokens ≡ rest) × (tree ≡ expr first.at (node.Truth b))
+truth_cut : {b : Bool} {first : Token} {tokens rest all : List Token} {tree : Expr} → SpellsExpr 0 all rest tree → all ≡ first ∷ tokens → first.kind ≡ kind.Word (truth_word b) → Stops 0 rest
+    → (tokens ≡ rest) × (tree ≡ expr first.at (node.Truth b))
 truth_cut {b = u} (prefixed {op = p} {tokens = w} {e = x} k d) e same s = absurd (cc)
 truth_cut {b = u} (number {n = m} k) e same s = absurd (cc)
 truth_cut {b = u} (truth {b = b} k) e same s = let alike : b ≡ u = truth_word-same b u (cc) in ((cc), (cc alike))
@@ -200,7 +215,8 @@ truth_rule b first same = record {
 }
 
 -- a name by itself
-pub named_found : (name : Name) (first : Token) (tokens : List Token) → first.kind ≡ kind.Named name → Stops 0 tokens → IsEnded tokens → Found (behind first (SpellsExpr 0)) (Stops 0) tokens tokens (expr first.at (node.Read (place name None)))
+pub named_found : (name : Name) (first : Token) (tokens : List Token) → first.kind ≡ kind.Named name → Stops 0 tokens → IsEnded tokens
+    → Found (behind first (SpellsExpr 0)) (Stops 0) tokens tokens (expr first.at (node.Read (place name None)))
 named_found name first tokens same s ended = record {
   read = [];
   split = refl;
@@ -210,16 +226,22 @@ named_found name first tokens same s ended = record {
 }
 
 -- a name and a bracket, and then an index and the other bracket
-indexed_cut : {v' : Name} {first bracket : Token} {tokens rest all : List Token} {tree : Expr} → SpellsExpr 0 all rest tree → all ≡ first ∷ bracket ∷ tokens → first.kind ≡ kind.Named v' → bracket.kind ≡ kind.Mark mark.OpenBracket → Stops 0 rest → Cut (SpellsExpr whole) (Stops whole) (λ index. Closes mark.CloseBracket (expr first.at (node.Read (place v' (Some index))))) tokens rest tree
+indexed_cut : {v' : Name} {first bracket : Token} {tokens rest all : List Token} {tree : Expr} → SpellsExpr 0 all rest tree → all ≡ first ∷ bracket ∷ tokens → first.kind ≡ kind.Named v'
+    → bracket.kind ≡ kind.Mark mark.OpenBracket → Stops 0 rest → Cut (SpellsExpr whole) (Stops whole) (λ index. Closes mark.CloseBracket (expr first.at (node.Read (place v' (Some index))))) tokens
+    rest tree
 indexed_cut {v' = v'} {first = first} {bracket = bracket} {tokens = tokens} {rest = rest} (prefixed k d) e same here s = absurd (cc)
 indexed_cut {v' = v'} {first = first} {bracket = bracket} {tokens = tokens} {rest = rest} (number k) e same here s = absurd (cc)
 indexed_cut {v' = v'} {first = first} {bracket = bracket} {tokens = tokens} {rest = rest} (truth k) e same here s = absurd (cc)
-indexed_cut {v' = v'} {first = first} {bracket = bracket} {tokens = tokens} {rest = rest} (named {rest = r} k) e same here s = let follows : r ≡ bracket ∷ tokens = cc in absurd (begins_clash _ s.no_index follows here)
-indexed_cut {v' = v'} {first = first} {bracket = bracket} {tokens = tokens} {rest = rest} (indexed {opening = z} {closing = q} {tokens = w} {name = v} {index = x} k o d c) e same here s = let at_tokens : w ≡ tokens = cc in let on : List Token → Type 0 = λ y. SpellsExpr whole y (q ∷ rest) x in record { middle = q ∷ rest; part = x; one = subst on at_tokens d; stopped = stops_at c refl (λ h. cc) (λ h. cc); two = (q, refl, c, (cc)) }
+indexed_cut {v' = v'} {first = first} {bracket = bracket} {tokens = tokens} {rest = rest} (named {rest = r} k) e same here s = let follows : r ≡ bracket ∷ tokens = cc in absurd
+    (begins_clash _ s.no_index follows here)
+indexed_cut {v' = v'} {first = first} {bracket = bracket} {tokens = tokens} {rest = rest} (indexed {opening = z} {closing = q} {tokens = w} {name = v} {index = x} k o d c) e same here s = let
+    at_tokens : w ≡ tokens = cc in let on : List Token → Type 0 = λ y. SpellsExpr whole y (q ∷ rest) x in record
+    { middle = q ∷ rest; part = x; one = subst on at_tokens d; stopped = stops_at c refl (λ h. cc) (λ h. cc); two = (q, refl, c, (cc)) }
 indexed_cut {v' = v'} {first = first} {bracket = bracket} {tokens = tokens} {rest = rest} (called {opening = z} {closing = q} {tokens = w} {name = v} {args = x} k o d c) e same here s = absurd (cc)
 indexed_cut {v' = v'} {first = first} {bracket = bracket} {tokens = tokens} {rest = rest} (paren k d c) e same here s = absurd (cc)
 
-pub indexed_rule : (name : Name) (first bracket : Token) → first.kind ≡ kind.Named name → bracket.kind ≡ kind.Mark mark.OpenBracket → Sequence (SpellsExpr whole) (Stops whole) (λ index. Closes mark.CloseBracket (expr first.at (node.Read (place name (Some index))))) (behind bracket (behind first (SpellsExpr 0))) (Stops 0)
+pub indexed_rule : (name : Name) (first bracket : Token) → first.kind ≡ kind.Named name → bracket.kind ≡ kind.Mark mark.OpenBracket
+    → Sequence (SpellsExpr whole) (Stops whole) (λ index. Closes mark.CloseBracket (expr first.at (node.Read (place name (Some index))))) (behind bracket (behind first (SpellsExpr 0))) (Stops 0)
 indexed_rule name first bracket same here = record {
   join = λ tokens middle rest part tree d r.
       let as_tree : Expr → Type 0 = λ x. SpellsExpr 0 (first ∷ bracket ∷ tokens) rest x in
@@ -234,24 +256,30 @@ indexed_rule name first bracket same here = record {
 }
 
 -- a name and a parenthesis, and then the arguments with the other one
-called_cut : {v' : Name} {first bracket : Token} {tokens rest all : List Token} {tree : Expr} → SpellsExpr 0 all rest tree → all ≡ first ∷ bracket ∷ tokens → first.kind ≡ kind.Named v' → bracket.kind ≡ kind.Mark mark.OpenParen → Stops 0 rest → Cut SpellsClosed stops_anywhere (λ args. Returns (expr first.at (node.CallOf (call v' args)))) tokens rest tree
+called_cut : {v' : Name} {first bracket : Token} {tokens rest all : List Token} {tree : Expr} → SpellsExpr 0 all rest tree → all ≡ first ∷ bracket ∷ tokens → first.kind ≡ kind.Named v'
+    → bracket.kind ≡ kind.Mark mark.OpenParen → Stops 0 rest → Cut SpellsClosed stops_anywhere (λ args. Returns (expr first.at (node.CallOf (call v' args)))) tokens rest tree
 called_cut {v' = v'} {first = first} {bracket = bracket} {tokens = tokens} {rest = rest} (prefixed k d) e same here s = absurd (cc)
 called_cut {v' = v'} {first = first} {bracket = bracket} {tokens = tokens} {rest = rest} (number k) e same here s = absurd (cc)
 called_cut {v' = v'} {first = first} {bracket = bracket} {tokens = tokens} {rest = rest} (truth k) e same here s = absurd (cc)
-called_cut {v' = v'} {first = first} {bracket = bracket} {tokens = tokens} {rest = rest} (named {rest = r} k) e same here s = let follows : r ≡ bracket ∷ tokens = cc in absurd (begins_clash _ s.no_call follows here)
+called_cut {v' = v'} {first = first} {bracket = bracket} {tokens = tokens} {rest = rest} (named {rest = r} k) e same here s = let follows : r ≡ bracket ∷ tokens = cc in absurd
+    (begins_clash _ s.no_call follows here)
 called_cut {v' = v'} {first = first} {bracket = bracket} {tokens = tokens} {rest = rest} (indexed {opening = z} {closing = q} {tokens = w} {name = v} {index = x} k o d c) e same here s = absurd (cc)
-called_cut {v' = v'} {first = first} {bracket = bracket} {tokens = tokens} {rest = rest} (called {opening = z} {closing = q} {tokens = w} {name = v} {args = x} k o d c) e same here s = let at_tokens : w ≡ tokens = cc in let on : List Token → Type 0 = λ y. SpellsArguments y (q ∷ rest) x in record { middle = rest; part = x; one = (q, subst on at_tokens d, c); stopped = tt; two = (refl, (cc)) }
+called_cut {v' = v'} {first = first} {bracket = bracket} {tokens = tokens} {rest = rest} (called {opening = z} {closing = q} {tokens = w} {name = v} {args = x} k o d c) e same here s = let
+    at_tokens : w ≡ tokens = cc in let on : List Token → Type 0 = λ y. SpellsArguments y (q ∷ rest) x in record
+    { middle = rest; part = x; one = (q, subst on at_tokens d, c); stopped = tt; two = (refl, (cc)) }
 called_cut {v' = v'} {first = first} {bracket = bracket} {tokens = tokens} {rest = rest} (paren k d c) e same here s = absurd (cc)
 
 tail_same : {x y : Token} {xs ys : List Token} → x ∷ xs ≡ y ∷ ys → xs ≡ ys
 tail_same e = cc
 
-pub unique_closed : (tokens middle middle' : List Token) (args args' : List Expr) → SpellsClosed tokens middle args → SpellsClosed tokens middle' args' → stops_anywhere middle → stops_anywhere middle' → (middle ≡ middle') × (args ≡ args')
+pub unique_closed : (tokens middle middle' : List Token) (args args' : List Expr) → SpellsClosed tokens middle args → SpellsClosed tokens middle' args' → stops_anywhere middle → stops_anywhere middle'
+    → (middle ≡ middle') × (args ≡ args')
 unique_closed tokens middle middle' args args' d d' s s' =
     let both : (d.0 ∷ middle ≡ d'.0 ∷ middle') × (args ≡ args') = unique_arguments d.1 d'.1 refl refl refl d.2 d'.2 in
     (tail_same both.0, both.1)
 
-pub called_rule : (name : Name) (first bracket : Token) → first.kind ≡ kind.Named name → bracket.kind ≡ kind.Mark mark.OpenParen → Sequence SpellsClosed stops_anywhere (λ args. Returns (expr first.at (node.CallOf (call name args)))) (behind bracket (behind first (SpellsExpr 0))) (Stops 0)
+pub called_rule : (name : Name) (first bracket : Token) → first.kind ≡ kind.Named name → bracket.kind ≡ kind.Mark mark.OpenParen
+    → Sequence SpellsClosed stops_anywhere (λ args. Returns (expr first.at (node.CallOf (call name args)))) (behind bracket (behind first (SpellsExpr 0))) (Stops 0)
 called_rule name first bracket same here = record {
   join = λ tokens middle rest part tree d r.
       let as_tree : Expr → Type 0 = λ x. SpellsExpr 0 (first ∷ bracket ∷ tokens) rest x in
@@ -273,11 +301,14 @@ stops_first next rest bracket round = record {
   no_operator = λ op h same. let least : suc zero ≤ level_of op = level_of-positive op in absurd (omega arith);
 }
 
-pub stops_here : (tokens : List Token) (next : Token) (rest : List Token) → tokens ≡ next ∷ rest → (next.kind ≡ kind.Mark mark.OpenBracket → ⊥) → (next.kind ≡ kind.Mark mark.OpenParen → ⊥) → Stops 0 tokens
+pub stops_here : (tokens : List Token) (next : Token) (rest : List Token) → tokens ≡ next ∷ rest → (next.kind ≡ kind.Mark mark.OpenBracket → ⊥) → (next.kind ≡ kind.Mark mark.OpenParen → ⊥)
+    → Stops 0 tokens
 stops_here tokens next rest split bracket round = subst (λ (x : List Token). Stops 0 x) (sym split) (stops_first next rest bracket round)
 
 -- arguments that go on: some were read, and a comma comes next
-more_cut : (sofar : List Expr) {args : List Expr} {comma : Token} {tokens rest all end : List Token} {es : List Expr} → SpellsMore all end es → all ≡ comma ∷ tokens → (closing : Token) → end ≡ closing ∷ rest → closing.kind ≡ kind.Mark mark.CloseParen → args ≡ sofar ++ es → comma.kind ≡ kind.Mark mark.Comma → Cut (SpellsExpr whole) (Stops whole) (λ e. SpellsMoreClosed (sofar ++ e ∷ [])) tokens rest args
+more_cut : (sofar : List Expr) {args : List Expr} {comma : Token} {tokens rest all end : List Token} {es : List Expr} → SpellsMore all end es → all ≡ comma ∷ tokens → (closing : Token)
+    → end ≡ closing ∷ rest → closing.kind ≡ kind.Mark mark.CloseParen → args ≡ sofar ++ es → comma.kind ≡ kind.Mark mark.Comma
+    → Cut (SpellsExpr whole) (Stops whole) (λ e. SpellsMoreClosed (sofar ++ e ∷ [])) tokens rest args
 more_cut sofar no_more e closing to c is here = absurd (cc)
 more_cut sofar {args = args} {tokens = tokens} {rest = rest} (more {tokens = w} {middle = m} {e = x} {es = es} k d ms) e closing to c is here =
     let at_tokens : w ≡ tokens = cc in
@@ -285,7 +316,8 @@ more_cut sofar {args = args} {tokens = tokens} {rest = rest} (more {tokens = w} 
     let until : List Token → Type 0 = λ y. SpellsMore m y es in
     record { middle = m; part = x; one = subst on at_tokens d; stopped = more_stops ms to c; two = (closing, es, subst until to ms, c, is ∙ sym (append_assoc sofar (x ∷ []) es)) }
 
-pub more_rule : (sofar : List Expr) (comma : Token) → comma.kind ≡ kind.Mark mark.Comma → Sequence (SpellsExpr whole) (Stops whole) (λ e. SpellsMoreClosed (sofar ++ e ∷ [])) (behind comma (SpellsMoreClosed sofar)) stops_anywhere
+pub more_rule : (sofar : List Expr) (comma : Token) → comma.kind ≡ kind.Mark mark.Comma → Sequence (SpellsExpr whole) (Stops whole) (λ e. SpellsMoreClosed (sofar ++ e ∷ []))
+    (behind comma (SpellsMoreClosed sofar)) stops_anywhere
 more_rule sofar comma here = record {
   join = λ tokens middle rest part tree d r. (r.0, part ∷ r.1, more here d r.2, r.3, r.4 ∙ append_assoc sofar (part ∷ []) r.1);
   cut = λ tokens rest tree d s. more_cut sofar d.2 refl d.0 refl d.3 d.4 here;
@@ -312,7 +344,8 @@ not_closing_first {tokens = tokens} d = by_cases tokens (λ first rest split sam
     by_cases [] h = tt
     by_cases (x ∷ xs) h = h x xs refl
 
-some_cut : {tokens end rest : List Token} {args : List Expr} → SpellsArguments tokens end args → (closing : Token) → end ≡ closing ∷ rest → closing.kind ≡ kind.Mark mark.CloseParen → BeginsOtherThan (kind.Mark mark.CloseParen) tokens → Cut (SpellsExpr whole) (Stops whole) (λ e. SpellsMoreClosed (e ∷ [])) tokens rest args
+some_cut : {tokens end rest : List Token} {args : List Expr} → SpellsArguments tokens end args → (closing : Token) → end ≡ closing ∷ rest → closing.kind ≡ kind.Mark mark.CloseParen
+    → BeginsOtherThan (kind.Mark mark.CloseParen) tokens → Cut (SpellsExpr whole) (Stops whole) (λ e. SpellsMoreClosed (e ∷ [])) tokens rest args
 some_cut nothing closing to c other = absurd (begins_clash _ other to c)
 some_cut {rest = rest} (something {middle = m} {e = x} {es = es} d ms) closing to c other =
     let until : List Token → Type 0 = λ y. SpellsMore m y es in
@@ -332,7 +365,8 @@ some_rule = record {
   some = λ part others. (some_token (kind.Mark mark.CloseParen), [], no_more, refl, refl);
 }
 
-begins_alike : (k : TokenKind) (tokens read : List Token) (token : Token) (left others : List Token) → BeginsOtherThan k tokens → tokens ≡ read ++ token ∷ left → BeginsOtherThan k (read ++ token ∷ others)
+begins_alike : (k : TokenKind) (tokens read : List Token) (token : Token) (left others : List Token) → BeginsOtherThan k tokens → tokens ≡ read ++ token ∷ left
+    → BeginsOtherThan k (read ++ token ∷ others)
 begins_alike k tokens read token left others h split = at_front read (subst (λ (x : List Token). BeginsOtherThan k x) split h)
   where
     at_front : (read : List Token) → BeginsOtherThan k (read ++ token ∷ left) → BeginsOtherThan k (read ++ token ∷ others)
@@ -340,7 +374,8 @@ begins_alike k tokens read token left others h split = at_front read (subst (λ 
     at_front (x ∷ xs) h = h
 
 -- a rule read where the first token is known not to be of a kind
-pub known_other : {T : Type 0} (k : TokenKind) (spells : List Token → List Token → T → Type 0) (stops : List Token → Type 0) (tokens : List Token) → BeginsOtherThan k tokens → Passes (λ ts rest tree. BeginsOtherThan k ts × spells ts rest tree) spells stops tokens tokens
+pub known_other : {T : Type 0} (k : TokenKind) (spells : List Token → List Token → T → Type 0) (stops : List Token → Type 0) (tokens : List Token) → BeginsOtherThan k tokens
+    → Passes (λ ts rest tree. BeginsOtherThan k ts × spells ts rest tree) spells stops tokens tokens
 known_other k spells stops tokens h = record {
   found = λ rest tree f. record { read = f.read; split = f.split; spelled = λ others. (f.spelled others).1; stopped = f.stopped; ended = f.ended };
   refused = λ at r. record {

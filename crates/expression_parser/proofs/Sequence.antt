@@ -6,7 +6,8 @@ use Rattle.expression_parser.specs.declared.ParseError.TheVariants as error
 use Rattle.expression_parser.specs.Reading.{Found, Refused, Fails, Answers, behind}
 
 -- a tree of a rule, cut where its first part ends
-pub record Cut {A T : Type 0} (first : List Token → List Token → A → Type 0) (stops : List Token → Type 0) (second : A → List Token → List Token → T → Type 0) (tokens rest : List Token) (tree : T) : Type 0 where
+pub record Cut {A T : Type 0} (first : List Token → List Token → A → Type 0) (stops : List Token → Type 0) (second : A → List Token → List Token → T → Type 0) (tokens rest : List Token)
+    (tree : T) : Type 0 where
   pub middle : List Token
   pub part : A
   pub one : first tokens middle part
@@ -15,7 +16,8 @@ pub record Cut {A T : Type 0} (first : List Token → List Token → A → Type 
 
 -- the rule is the first and then the second, which may look at the first's tree; a first part has one end and
 -- one tree, whether it stops shows at the next token, and from behind it some tree can be finished
-pub record Sequence {A T : Type 0} (first : List Token → List Token → A → Type 0) (stops : List Token → Type 0) (second : A → List Token → List Token → T → Type 0) (spells : List Token → List Token → T → Type 0) (ends : List Token → Type 0) : Type 0 where
+pub record Sequence {A T : Type 0} (first : List Token → List Token → A → Type 0) (stops : List Token → Type 0) (second : A → List Token → List Token → T → Type 0)
+    (spells : List Token → List Token → T → Type 0) (ends : List Token → Type 0) : Type 0 where
   pub join : (tokens middle rest : List Token) (part : A) (tree : T) → first tokens middle part → second part middle rest tree → spells tokens rest tree
   pub cut : (tokens rest : List Token) (tree : T) → spells tokens rest tree → ends rest → Cut first stops second tokens rest tree
   pub unique : (tokens middle middle' : List Token) (part part' : A) → first tokens middle part → first tokens middle' part' → stops middle → stops middle' → (middle ≡ middle') × (part ≡ part')
@@ -29,22 +31,26 @@ pub record Passes {T : Type 0} (inner outer : List Token → List Token → T �
   pub found : (rest : List Token) (tree : T) → Found inner ends here rest tree → Found outer ends start rest tree
   pub refused : (at : ℕ) → Refused inner ends here at → Refused outer ends start at
 
-pub passed_error : {T : Type 0} (inner outer : List Token → List Token → T → Type 0) (ends : List Token → Type 0) (here start : List Token) (e : ParseError) → Passes inner outer ends here start → Fails inner ends here e → Fails outer ends start e
+pub passed_error : {T : Type 0} (inner outer : List Token → List Token → T → Type 0) (ends : List Token → Type 0) (here start : List Token) (e : ParseError) → Passes inner outer ends here start
+    → Fails inner ends here e → Fails outer ends start e
 passed_error inner outer ends here start error.NoMemory p h = tt
 passed_error inner outer ends here start (error.TooDeep at) p h = absurd h
 passed_error inner outer ends here start (error.Unexpected at) p h = p.refused at h
 
-pub passed : {X T : Type 0} (inner outer : List Token → List Token → T → Type 0) (ends : List Token → Type 0) (here start : List Token) (view : X → T × List Token) (result : Result X ParseError) → Passes inner outer ends here start → Answers inner ends here view result → Answers outer ends start view result
+pub passed : {X T : Type 0} (inner outer : List Token → List Token → T → Type 0) (ends : List Token → Type 0) (here start : List Token) (view : X → T × List Token) (result : Result X ParseError)
+    → Passes inner outer ends here start → Answers inner ends here view result → Answers outer ends start view result
 passed inner outer ends here start view (Ok x) p h = p.found (view x).1 (view x).0 h
 passed inner outer ends here start view (Err e) p h = passed_error inner outer ends here start e p h
 
-pub passes_through : {T : Type 0} {one two three : List Token → List Token → T → Type 0} {ends : List Token → Type 0} {xs ys zs : List Token} → Passes one two ends xs ys → Passes two three ends ys zs → Passes one three ends xs zs
+pub passes_through : {T : Type 0} {one two three : List Token → List Token → T → Type 0} {ends : List Token → Type 0} {xs ys zs : List Token} → Passes one two ends xs ys → Passes two three ends ys zs
+    → Passes one three ends xs zs
 passes_through p q = record {
   found = λ rest tree f. q.found rest tree (p.found rest tree f);
   refused = λ at r. q.refused at (p.refused at r);
 }
 
-module _ {A T : Type 0} (first : List Token → List Token → A → Type 0) (stops : List Token → Type 0) (second : A → List Token → List Token → T → Type 0) (spells : List Token → List Token → T → Type 0) (ends : List Token → Type 0) (rule : Sequence first stops second spells ends) where
+module _ {A T : Type 0} (first : List Token → List Token → A → Type 0) (stops : List Token → Type 0) (second : A → List Token → List Token → T → Type 0) (spells : List Token → List Token → T → Type 0)
+    (ends : List Token → Type 0) (rule : Sequence first stops second spells ends) where
   first_refused : (tokens : List Token) (at : ℕ) → Refused first stops tokens at → Refused spells ends tokens at
   first_refused tokens at r = record {
     read = r.read;
@@ -119,7 +125,8 @@ module _ {A T : Type 0} (first : List Token → List Token → A → Type 0) (st
   second_error tokens middle part (error.Unexpected at) f h = second_refused tokens middle part at f h
 
   -- what it answers where the first part was found: what the reader of the second part answers
-  pub after_second : {X : Type 0} (view : X → T × List Token) (tokens middle : List Token) (part : A) (result : Result X ParseError) → Found first stops tokens middle part → Answers (second part) ends middle view result → Answers spells ends tokens view result
+  pub after_second : {X : Type 0} (view : X → T × List Token) (tokens middle : List Token) (part : A) (result : Result X ParseError) → Found first stops tokens middle part
+      → Answers (second part) ends middle view result → Answers spells ends tokens view result
   after_second view tokens middle part (Ok x) f h = second_found tokens middle (view x).1 part (view x).0 f h
   after_second view tokens middle part (Err e) f h = second_error tokens middle part e f h
 
@@ -131,7 +138,8 @@ module _ {A T : Type 0} (first : List Token → List Token → A → Type 0) (st
   }
 
 -- what a reader answers behind the first token, and so from it
-pub passes_behind : {T : Type 0} (spells : List Token → List Token → T → Type 0) (ends : List Token → Type 0) (token : Token) (tokens all : List Token) → all ≡ token ∷ tokens → Passes (behind token spells) spells ends tokens all
+pub passes_behind : {T : Type 0} (spells : List Token → List Token → T → Type 0) (ends : List Token → Type 0) (token : Token) (tokens all : List Token) → all ≡ token ∷ tokens
+    → Passes (behind token spells) spells ends tokens all
 passes_behind spells ends token tokens all split = record {
   found = λ rest tree f. record {
     read = token ∷ f.read;
@@ -182,7 +190,9 @@ passes_same one two ends tokens same = record {
 }
 
 -- the first token is refused where no tree begins with it, and some tree there is
-pub refused_here : {T : Type 0} (spells : List Token → List Token → T → Type 0) (ends : List Token → Type 0) (token : Token) (tokens : List Token) → ((others rest : List Token) (tree : T) → spells (token ∷ others) rest tree → ends rest → ⊥) → (ending : List Token) (finished : T) → ((others : List Token) → spells (ending ++ others) others finished) → Refused spells ends (token ∷ tokens) token.at
+pub refused_here : {T : Type 0} (spells : List Token → List Token → T → Type 0) (ends : List Token → Type 0) (token : Token) (tokens : List Token)
+    → ((others rest : List Token) (tree : T) → spells (token ∷ others) rest tree → ends rest → ⊥) → (ending : List Token) (finished : T)
+    → ((others : List Token) → spells (ending ++ others) others finished) → Refused spells ends (token ∷ tokens) token.at
 refused_here spells ends token tokens never ending finished some = record {
   read = [];
   token = token;

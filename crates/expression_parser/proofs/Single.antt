@@ -17,7 +17,8 @@ ended_behind tokens first rest ended split other = ended_tail first rest (subst 
 abbrev pub some_token : TokenKind → Token
 some_token k = record { at = 0; kind = k }
 
-pub token_found : (k : TokenKind) (tokens : List Token) (first : Token) (rest : List Token) → IsEnded tokens → tokens ≡ first ∷ rest → first.kind ≡ k → (k ≡ kind.End → ⊥) → Found (IsToken k) stops_anywhere tokens rest first
+pub token_found : (k : TokenKind) (tokens : List Token) (first : Token) (rest : List Token) → IsEnded tokens → tokens ≡ first ∷ rest → first.kind ≡ k → (k ≡ kind.End → ⊥)
+    → Found (IsToken k) stops_anywhere tokens rest first
 token_found k tokens first rest ended split same other = record {
   read = first ∷ [];
   split = split;

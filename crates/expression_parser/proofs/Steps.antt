@@ -13,12 +13,15 @@ use Rattle.csl_tree.specs.declared.program.BinaryOp.{BinaryOp}
 use Rattle.csl_tree.specs.declared.program.Expr.{Expr}
 use Rattle.csl_tree.specs.declared.program.Node.TheVariants as node
 use Rattle.expression_parser.specs.declared.ParseError.{ParseError}
-use Rattle.csl_grammar.specs.Expressions.{SpellsExpr, SpellsChain, SpellsArguments, prefixed, number, truth, named, indexed, called, paren, nothing, level_of, mark_of, prefix_mark, truth_word, expr, binary, whole, call}
+use Rattle.csl_grammar.specs.Expressions.{SpellsExpr, SpellsChain, SpellsArguments, prefixed, number, truth, named, indexed, called, paren, nothing, level_of, mark_of, prefix_mark, truth_word, expr}
+use Rattle.csl_grammar.specs.Expressions.{binary, whole, call}
 use Rattle.csl_grammar.specs.Stops.{BeginsOtherThan, Stops, IsEnded, operator_of}
-use Rattle.expression_parser.specs.Reading.{Found, Refused, Fails, Answers, IsToken, Returns, behind, stops_anywhere, prefix_of, at_mark, number_of, truth_of, truth_of_word, SpellsClosed, SpellsMoreClosed}
+use Rattle.expression_parser.specs.Reading.{Found, Refused, Fails, Answers, IsToken, Returns, behind, stops_anywhere, prefix_of, at_mark, number_of, truth_of, truth_of_word, SpellsClosed}
+use Rattle.expression_parser.specs.Reading.{SpellsMoreClosed}
 use Rattle.csl_grammar.proofs.Unique.{operator_of-mark_of}
 use Rattle.expression_parser.proofs.Sequence.{Sequence, Passes, after_first, after_second, second_error, passed_error, passes_second, passes_behind, passes_same, passes_through, passed, refused_here}
-use Rattle.expression_parser.proofs.Rules.{level_rule, chain_rule, chain_found, returns_found, Closes, closes_rule, prefixed_rule, number_rule, truth_rule, called_rule, more_rule, some_rule, SpellsSome, known_other, last_rule, IsTokenThen}
+use Rattle.expression_parser.proofs.Rules.{level_rule, chain_rule, chain_found, returns_found, Closes, closes_rule, prefixed_rule, number_rule, truth_rule, called_rule, more_rule, some_rule}
+use Rattle.expression_parser.proofs.Rules.{SpellsSome, known_other, last_rule, IsTokenThen}
 use Rattle.expression_parser.proofs.Single.{some_token}
 use Rattle.csl_tree.specs.declared.program.UnaryOp.TheVariants as unary_op
 use Rattle.csl_tree.specs.declared.program.BinaryOp.TheVariants as binary_op
@@ -101,24 +104,31 @@ module _ (level below : ℕ) (up : level ≡ suc below) where
       let at_level : ℕ → Type 0 = λ x. Fails (SpellsExpr x) (Stops x) tokens e in
       subst at_level (sym up) (after_first (SpellsExpr below) (Stops below) (λ first. SpellsChain below first) (SpellsExpr (suc below)) (Stops (suc below)) (level_rule below) tokens e h)
 
-  pub level_ok : {X : Type 0} (view : X → Expr × List Token) (tokens middle : List Token) (first : Expr) (result : Result X ParseError) → Found (SpellsExpr below) (Stops below) tokens middle first → Answers (SpellsChain below first) (Stops (suc below)) middle view result → Answers (SpellsExpr level) (Stops level) tokens view result
+  pub level_ok : {X : Type 0} (view : X → Expr × List Token) (tokens middle : List Token) (first : Expr) (result : Result X ParseError) → Found (SpellsExpr below) (Stops below) tokens middle first
+      → Answers (SpellsChain below first) (Stops (suc below)) middle view result → Answers (SpellsExpr level) (Stops level) tokens view result
   level_ok view tokens middle first result f h =
       let at_level : ℕ → Type 0 = λ x. Answers (SpellsExpr x) (Stops x) tokens view result in
-      subst at_level (sym up) (after_second (SpellsExpr below) (Stops below) (λ first. SpellsChain below first) (SpellsExpr (suc below)) (Stops (suc below)) (level_rule below) view tokens middle first result f h)
+      subst at_level (sym up) (after_second (SpellsExpr below) (Stops below) (λ first. SpellsChain below first) (SpellsExpr (suc below)) (Stops (suc below)) (level_rule below) view tokens middle first
+      result f h)
 
-module _ (below : ℕ) (op : BinaryOp) (left : Expr) (tokens : List Token) (sign : Token) (rest : List Token) (split : tokens ≡ sign ∷ rest) (here : level_of op ≡ suc below) (same : sign.kind ≡ kind.Mark (mark_of op)) where
+module _ (below : ℕ) (op : BinaryOp) (left : Expr) (tokens : List Token) (sign : Token) (rest : List Token) (split : tokens ≡ sign ∷ rest) (here : level_of op ≡ suc below)
+    (same : sign.kind ≡ kind.Mark (mark_of op)) where
   pub chain_err : (e : ParseError) → Fails (SpellsExpr below) (Stops below) rest e → Fails (SpellsChain below left) (Stops (suc below)) tokens e
   chain_err e h =
       passed_error (behind sign (SpellsChain below left)) (SpellsChain below left) (Stops (suc below)) rest tokens e
       (passes_behind (SpellsChain below left) (Stops (suc below)) sign rest tokens split)
-      (after_first (SpellsExpr below) (Stops below) (λ right. SpellsChain below (binary op left right)) (behind sign (SpellsChain below left)) (Stops (suc below)) (chain_rule below op left sign here same) rest e h)
+      (after_first (SpellsExpr below) (Stops below) (λ right. SpellsChain below (binary op left right)) (behind sign (SpellsChain below left)) (Stops (suc below))
+      (chain_rule below op left sign here same) rest e h)
 
-  pub chain_ok : {X : Type 0} (view : X → Expr × List Token) (middle : List Token) (right both : Expr) (result : Result X ParseError) → both ≡ binary op left right → Found (SpellsExpr below) (Stops below) rest middle right → Answers (SpellsChain below both) (Stops (suc below)) middle view result → Answers (SpellsChain below left) (Stops (suc below)) tokens view result
+  pub chain_ok : {X : Type 0} (view : X → Expr × List Token) (middle : List Token) (right both : Expr) (result : Result X ParseError) → both ≡ binary op left right
+      → Found (SpellsExpr below) (Stops below) rest middle right → Answers (SpellsChain below both) (Stops (suc below)) middle view result
+      → Answers (SpellsChain below left) (Stops (suc below)) tokens view result
   chain_ok view middle right both result is f h =
       let with_left : Expr → Type 0 = λ x. Answers (SpellsChain below x) (Stops (suc below)) middle view result in
       passed (behind sign (SpellsChain below left)) (SpellsChain below left) (Stops (suc below)) rest tokens view result
       (passes_behind (SpellsChain below left) (Stops (suc below)) sign rest tokens split)
-      (after_second (SpellsExpr below) (Stops below) (λ right. SpellsChain below (binary op left right)) (behind sign (SpellsChain below left)) (Stops (suc below)) (chain_rule below op left sign here same) view rest middle right result f (subst with_left is h))
+      (after_second (SpellsExpr below) (Stops below) (λ right. SpellsChain below (binary op left right)) (behind sign (SpellsChain below left)) (Stops (suc below))
+      (chain_rule below op left sign here same) view rest middle right result f (subst with_left is h))
 
 not_first : {k : TokenKind} (tokens : List Token) (first : Token) (rest : List Token) → tokens ≡ first ∷ rest → (first.kind ≡ k → ⊥) → BeginsOtherThan k tokens
 not_first {k = k} tokens first rest split other = subst (λ (x : List Token). BeginsOtherThan k x) (sym split) (at_front first rest other)
@@ -126,59 +136,73 @@ not_first {k = k} tokens first rest split other = subst (λ (x : List Token). Be
     at_front : (first : Token) (rest : List Token) → (first.kind ≡ k → ⊥) → BeginsOtherThan k (first ∷ rest)
     at_front first rest other = other
 
-stops_above : (below : ℕ) (tokens : List Token) (first : Token) (rest : List Token) → tokens ≡ first ∷ rest → Stops below tokens → ((op : BinaryOp) → level_of op ≡ suc below → first.kind ≡ kind.Mark (mark_of op) → ⊥) → Stops (suc below) tokens
+stops_above : (below : ℕ) (tokens : List Token) (first : Token) (rest : List Token) → tokens ≡ first ∷ rest → Stops below tokens
+    → ((op : BinaryOp) → level_of op ≡ suc below → first.kind ≡ kind.Mark (mark_of op) → ⊥) → Stops (suc below) tokens
 stops_above below tokens first rest split s other = record {
   no_index = s.no_index;
   no_call = s.no_call;
   no_operator = λ op h. level_cases op h (leb_tells (level_of op) below);
 }
   where
-    level_cases : (op : BinaryOp) → level_of op ≤ suc below → ((leb (level_of op) below ≡ true) × (level_of op ≤ below)) ⊎ ((leb (level_of op) below ≡ false) × (below < level_of op)) → BeginsOtherThan (kind.Mark (mark_of op)) tokens
+    level_cases : (op : BinaryOp) → level_of op ≤ suc below → ((leb (level_of op) below ≡ true) × (level_of op ≤ below)) ⊎ ((leb (level_of op) below ≡ false) × (below < level_of op))
+        → BeginsOtherThan (kind.Mark (mark_of op)) tokens
     level_cases op h (inl e) = s.no_operator op e.1
     level_cases op h (inr e) = not_first tokens first rest split (other op (omega arith))
 
 -- where no operator of the level comes next, the chain has ended
-pub chain_done : (below : ℕ) (left : Expr) (tokens : List Token) (first : Token) (rest : List Token) (next : Option BinaryOp) → tokens ≡ first ∷ rest → IsEnded tokens → Stops below tokens → at_mark operator_of first.kind ≡ next → ((op : BinaryOp) → next ≡ Some op → level_of op ≡ suc below → ⊥) → Found (SpellsChain below left) (Stops (suc below)) tokens tokens left
+pub chain_done : (below : ℕ) (left : Expr) (tokens : List Token) (first : Token) (rest : List Token) (next : Option BinaryOp) → tokens ≡ first ∷ rest → IsEnded tokens → Stops below tokens
+    → at_mark operator_of first.kind ≡ next → ((op : BinaryOp) → next ≡ Some op → level_of op ≡ suc below → ⊥) → Found (SpellsChain below left) (Stops (suc below)) tokens tokens left
 chain_done below left tokens first rest next split ended s is other =
     chain_found below left tokens (stops_above below tokens first rest split s (λ op here same. other op (sym is ∙ ap (λ k. at_mark operator_of k) same ∙ operator_of-mark_of op) here)) ended
 
 -- from the tokens behind the first to all of them
-pub from_first : {X T : Type 0} (spells : List Token → List Token → T → Type 0) (ends : List Token → Type 0) (view : X → T × List Token) (tokens : List Token) (first : Token) (rest : List Token) (result : Result X ParseError) → tokens ≡ first ∷ rest → Answers (behind first spells) ends rest view result → Answers spells ends tokens view result
+pub from_first : {X T : Type 0} (spells : List Token → List Token → T → Type 0) (ends : List Token → Type 0) (view : X → T × List Token) (tokens : List Token) (first : Token) (rest : List Token)
+    (result : Result X ParseError) → tokens ≡ first ∷ rest → Answers (behind first spells) ends rest view result → Answers spells ends tokens view result
 from_first spells stops view tokens first rest result split h = passed (behind first spells) spells stops rest tokens view result (passes_behind spells stops first rest tokens split) h
 
 module _ (op : UnaryOp) (first : Token) (same : first.kind ≡ kind.Mark (prefix_mark op)) (tokens : List Token) where
   pub prefixed_err : (e : ParseError) → Fails (SpellsExpr 0) (Stops 0) tokens e → Fails (behind first (SpellsExpr 0)) (Stops 0) tokens e
   prefixed_err e h = after_first (SpellsExpr 0) (Stops 0) (λ inner. Returns (expr first.at (node.Unary op inner))) (behind first (SpellsExpr 0)) (Stops 0) (prefixed_rule op first same) tokens e h
 
-  pub prefixed_ok : (rest : List Token) (inner whole_tree : Expr) → whole_tree ≡ expr first.at (node.Unary op inner) → Found (SpellsExpr 0) (Stops 0) tokens rest inner → Found (behind first (SpellsExpr 0)) (Stops 0) tokens rest whole_tree
+  pub prefixed_ok : (rest : List Token) (inner whole_tree : Expr) → whole_tree ≡ expr first.at (node.Unary op inner) → Found (SpellsExpr 0) (Stops 0) tokens rest inner
+      → Found (behind first (SpellsExpr 0)) (Stops 0) tokens rest whole_tree
   prefixed_ok rest inner whole_tree is f =
       let as_tree : Expr → Type 0 = λ x. Found (behind first (SpellsExpr 0)) (Stops 0) tokens rest x in
-      subst as_tree (sym is) ((passes_second (SpellsExpr 0) (Stops 0) (λ inner. Returns (expr first.at (node.Unary op inner))) (behind first (SpellsExpr 0)) (Stops 0) (prefixed_rule op first same) tokens rest inner f).found rest _ (returns_found (expr first.at (node.Unary op inner)) (Stops 0) rest f.stopped f.ended))
+      subst as_tree (sym is) ((passes_second (SpellsExpr 0) (Stops 0) (λ inner. Returns (expr first.at (node.Unary op inner))) (behind first (SpellsExpr 0)) (Stops 0) (prefixed_rule op first same)
+      tokens rest inner f).found rest _ (returns_found (expr first.at (node.Unary op inner)) (Stops 0) rest f.stopped f.ended))
 
 -- an expression between brackets, of which the first was read
-module _ (m : Mark) (known : Expr → Expr) (spells : List Token → List Token → Expr → Type 0) (rule : Sequence (SpellsExpr whole) (Stops whole) (λ x. Closes m (known x)) spells (Stops 0)) (tokens : List Token) where
+module _ (m : Mark) (known : Expr → Expr) (spells : List Token → List Token → Expr → Type 0) (rule : Sequence (SpellsExpr whole) (Stops whole) (λ x. Closes m (known x)) spells (Stops 0))
+    (tokens : List Token) where
   pub inside_err : (e : ParseError) → Fails (SpellsExpr whole) (Stops whole) tokens e → Fails spells (Stops 0) tokens e
   inside_err e h = after_first (SpellsExpr whole) (Stops whole) (λ x. Closes m (known x)) spells (Stops 0) rule tokens e h
 
-  pub closing_err : (middle : List Token) (inner : Expr) (e : ParseError) → Found (SpellsExpr whole) (Stops whole) tokens middle inner → Fails (IsToken (kind.Mark m)) stops_anywhere middle e → Fails spells (Stops 0) tokens e
+  pub closing_err : (middle : List Token) (inner : Expr) (e : ParseError) → Found (SpellsExpr whole) (Stops whole) tokens middle inner → Fails (IsToken (kind.Mark m)) stops_anywhere middle e
+      → Fails spells (Stops 0) tokens e
   closing_err middle inner e f h =
       second_error (SpellsExpr whole) (Stops whole) (λ x. Closes m (known x)) spells (Stops 0) rule tokens middle inner e f
       (after_first (IsToken (kind.Mark m)) stops_anywhere (λ closing. Returns (known inner)) (Closes m (known inner)) (Stops 0) (closes_rule m (known inner) (Stops 0)) middle e h)
 
-  pub closed_ok : {X : Type 0} (view : X → Expr × List Token) (middle rest : List Token) (inner tree : Expr) (closing : Token) (result : Result X ParseError) → tree ≡ known inner → Found (SpellsExpr whole) (Stops whole) tokens middle inner → Found (IsToken (kind.Mark m)) stops_anywhere middle rest closing → Answers (Returns tree) (Stops 0) rest view result → Answers spells (Stops 0) tokens view result
+  pub closed_ok : {X : Type 0} (view : X → Expr × List Token) (middle rest : List Token) (inner tree : Expr) (closing : Token) (result : Result X ParseError) → tree ≡ known inner
+      → Found (SpellsExpr whole) (Stops whole) tokens middle inner → Found (IsToken (kind.Mark m)) stops_anywhere middle rest closing → Answers (Returns tree) (Stops 0) rest view result
+      → Answers spells (Stops 0) tokens view result
   closed_ok view middle rest inner tree closing result is f g h =
       let as_tree : Expr → Type 0 = λ x. Answers (Returns x) (Stops 0) rest view result in
       after_second (SpellsExpr whole) (Stops whole) (λ x. Closes m (known x)) spells (Stops 0) rule view tokens middle inner result f
-      (after_second (IsToken (kind.Mark m)) stops_anywhere (λ closing. Returns (known inner)) (Closes m (known inner)) (Stops 0) (closes_rule m (known inner) (Stops 0)) view middle rest closing result g (subst as_tree is h))
+      (after_second (IsToken (kind.Mark m)) stops_anywhere (λ closing. Returns (known inner)) (Closes m (known inner)) (Stops 0) (closes_rule m (known inner) (Stops 0)) view middle rest closing result
+      g (subst as_tree is h))
 
 module _ (name : Name) (first bracket : Token) (same : first.kind ≡ kind.Named name) (here : bracket.kind ≡ kind.Mark mark.OpenParen) (tokens : List Token) where
   pub called_err : (e : ParseError) → Fails SpellsClosed stops_anywhere tokens e → Fails (behind bracket (behind first (SpellsExpr 0))) (Stops 0) tokens e
-  called_err e h = after_first SpellsClosed stops_anywhere (λ args. Returns (expr first.at (node.CallOf (call name args)))) (behind bracket (behind first (SpellsExpr 0))) (Stops 0) (called_rule name first bracket same here) tokens e h
+  called_err e h = after_first SpellsClosed stops_anywhere (λ args. Returns (expr first.at (node.CallOf (call name args)))) (behind bracket (behind first (SpellsExpr 0))) (Stops 0)
+      (called_rule name first bracket same here) tokens e h
 
-  pub called_ok : {X : Type 0} (view : X → Expr × List Token) (rest : List Token) (args : List Expr) (tree : Expr) (result : Result X ParseError) → tree ≡ expr first.at (node.CallOf (call name args)) → Found SpellsClosed stops_anywhere tokens rest args → Answers (Returns tree) (Stops 0) rest view result → Answers (behind bracket (behind first (SpellsExpr 0))) (Stops 0) tokens view result
+  pub called_ok : {X : Type 0} (view : X → Expr × List Token) (rest : List Token) (args : List Expr) (tree : Expr) (result : Result X ParseError) → tree ≡ expr first.at (node.CallOf (call name args))
+      → Found SpellsClosed stops_anywhere tokens rest args → Answers (Returns tree) (Stops 0) rest view result → Answers (behind bracket (behind first (SpellsExpr 0))) (Stops 0) tokens view result
   called_ok view rest args tree result is f h =
       let as_tree : Expr → Type 0 = λ x. Answers (Returns x) (Stops 0) rest view result in
-      after_second SpellsClosed stops_anywhere (λ args. Returns (expr first.at (node.CallOf (call name args)))) (behind bracket (behind first (SpellsExpr 0))) (Stops 0) (called_rule name first bracket same here) view tokens rest args result f (subst as_tree is h)
+      after_second SpellsClosed stops_anywhere (λ args. Returns (expr first.at (node.CallOf (call name args)))) (behind bracket (behind first (SpellsExpr 0))) (Stops 0)
+      (called_rule name first bracket same here) view tokens rest args result f (subst as_tree is h)
 
 -- a token with which no expression begins, signs aside
 pub record BeginsNothing (k : TokenKind) : Type 0 where
@@ -240,28 +264,35 @@ begins_nothing (prefixed {op = op} k d) e sign h =
     let same : at_mark prefix_of (kind.Mark (prefix_mark op)) ≡ None = cc in
     let some : Some op ≡ None = sym (prefix_of-prefix_mark op) ∙ same in cc
 begins_nothing {first = first} (number {n = n} k) e sign h = let same : first.kind ≡ kind.Number n = cc in let both : Some n ≡ None = sym (ap number_of same) ∙ h.no_number in cc
-begins_nothing {first = first} (truth {b = b} k) e sign h = let same : first.kind ≡ kind.Word (truth_word b) = cc in let both : Some b ≡ None = sym (truth_of-word b) ∙ sym (ap truth_of same) ∙ h.no_truth in cc
+begins_nothing {first = first} (truth {b = b} k) e sign h = let same : first.kind ≡ kind.Word (truth_word b) = cc in let both : Some b ≡ None = sym (truth_of-word b) ∙ sym (ap truth_of same)
+    ∙ h.no_truth in cc
 begins_nothing {first = first} (named {name = n} k) e sign h = let same : first.kind ≡ kind.Named n = cc in h.no_name n same
 begins_nothing {first = first} (indexed {name = n} k o d c) e sign h = let same : first.kind ≡ kind.Named n = cc in h.no_name n same
 begins_nothing {first = first} (called {name = n} k o d c) e sign h = let same : first.kind ≡ kind.Named n = cc in h.no_name n same
 begins_nothing {first = first} (paren k d c) e sign h = let same : first.kind ≡ kind.Mark mark.OpenParen = cc in h.no_open same
 
 -- a number, a truth value
-pub number_ok : {X : Type 0} (view : X → Expr × List Token) (n : ℤ) (first : Token) (tokens : List Token) (result : Result X ParseError) → number_of first.kind ≡ Some n → Answers (Returns (expr first.at (node.Number n))) (Stops 0) tokens view result → Answers (SpellsExpr 0) (Stops 0) (first ∷ tokens) view result
+pub number_ok : {X : Type 0} (view : X → Expr × List Token) (n : ℤ) (first : Token) (tokens : List Token) (result : Result X ParseError) → number_of first.kind ≡ Some n
+    → Answers (Returns (expr first.at (node.Number n))) (Stops 0) tokens view result → Answers (SpellsExpr 0) (Stops 0) (first ∷ tokens) view result
 number_ok view n first tokens result same h =
     from_first (SpellsExpr 0) (Stops 0) view (first ∷ tokens) first tokens result refl
-    (passed (Returns (expr first.at (node.Number n))) (behind first (SpellsExpr 0)) (Stops 0) tokens tokens view result (passes_same _ _ _ tokens (number_rule n first (number_of-number first.kind n same))) h)
+    (passed (Returns (expr first.at (node.Number n))) (behind first (SpellsExpr 0)) (Stops 0) tokens tokens view result
+    (passes_same _ _ _ tokens (number_rule n first (number_of-number first.kind n same))) h)
 
-pub truth_ok : {X : Type 0} (view : X → Expr × List Token) (b : Bool) (first : Token) (tokens : List Token) (result : Result X ParseError) → truth_of first.kind ≡ Some b → Answers (Returns (expr first.at (node.Truth b))) (Stops 0) tokens view result → Answers (SpellsExpr 0) (Stops 0) (first ∷ tokens) view result
+pub truth_ok : {X : Type 0} (view : X → Expr × List Token) (b : Bool) (first : Token) (tokens : List Token) (result : Result X ParseError) → truth_of first.kind ≡ Some b
+    → Answers (Returns (expr first.at (node.Truth b))) (Stops 0) tokens view result → Answers (SpellsExpr 0) (Stops 0) (first ∷ tokens) view result
 truth_ok view b first tokens result same h =
     from_first (SpellsExpr 0) (Stops 0) view (first ∷ tokens) first tokens result refl
-    (passed (Returns (expr first.at (node.Truth b))) (behind first (SpellsExpr 0)) (Stops 0) tokens tokens view result (passes_same _ _ _ tokens (truth_rule b first (truth_of-truth first.kind b same))) h)
+    (passed (Returns (expr first.at (node.Truth b))) (behind first (SpellsExpr 0)) (Stops 0) tokens tokens view result
+    (passes_same _ _ _ tokens (truth_rule b first (truth_of-truth first.kind b same))) h)
 
 pub nothing_here : (first : Token) (tokens : List Token) → at_mark prefix_of first.kind ≡ None → BeginsNothing first.kind → Refused (SpellsExpr 0) (Stops 0) (first ∷ tokens) first.at
-nothing_here first tokens sign h = refused_here (SpellsExpr 0) (Stops 0) first tokens (λ others rest tree d s. begins_nothing d refl sign h) (some_token (kind.Number (pos 0)) ∷ []) (expr 0 (node.Number (pos 0))) (λ others. number refl)
+nothing_here first tokens sign h = refused_here (SpellsExpr 0) (Stops 0) first tokens (λ others rest tree d s. begins_nothing d refl sign h) (some_token (kind.Number (pos 0)) ∷ [])
+    (expr 0 (node.Number (pos 0))) (λ others. number refl)
 
 -- the arguments of a call
-pub no_arguments : (tokens rest : List Token) (closing : Token) (args : List Expr) → args ≡ [] → tokens ≡ closing ∷ rest → closing.kind ≡ kind.Mark mark.CloseParen → IsEnded rest → Found SpellsClosed stops_anywhere tokens rest args
+pub no_arguments : (tokens rest : List Token) (closing : Token) (args : List Expr) → args ≡ [] → tokens ≡ closing ∷ rest → closing.kind ≡ kind.Mark mark.CloseParen → IsEnded rest
+    → Found SpellsClosed stops_anywhere tokens rest args
 no_arguments tokens rest closing args none split same ended = record {
   read = closing ∷ [];
   split = split;
@@ -279,7 +310,8 @@ module _ (tokens : List Token) (first : Token) (behind_it : List Token) (split :
       passed_error SpellsSome SpellsClosed stops_anywhere tokens tokens e some_passes
       (after_first (SpellsExpr whole) (Stops whole) (λ x. SpellsMoreClosed (x ∷ [])) SpellsSome stops_anywhere some_rule tokens e h)
 
-  pub some_begun : (middle : List Token) (e : Expr) (args : List Expr) → args ≡ e ∷ [] → Found (SpellsExpr whole) (Stops whole) tokens middle e → Passes (SpellsMoreClosed args) SpellsClosed stops_anywhere middle tokens
+  pub some_begun : (middle : List Token) (e : Expr) (args : List Expr) → args ≡ e ∷ [] → Found (SpellsExpr whole) (Stops whole) tokens middle e
+      → Passes (SpellsMoreClosed args) SpellsClosed stops_anywhere middle tokens
   some_begun middle e args is f =
       let with_args : List Expr → Type 0 = λ x. Passes (SpellsMoreClosed x) SpellsClosed stops_anywhere middle tokens in
       subst with_args (sym is) (passes_through (passes_second (SpellsExpr whole) (Stops whole) (λ x. SpellsMoreClosed (x ∷ [])) SpellsSome stops_anywhere some_rule tokens middle e f) some_passes)
@@ -288,25 +320,31 @@ module _ (tokens rest : List Token) (sofar : List Expr) (passes : Passes (Spells
   comma_passes : (comma : Token) (left : List Token) → rest ≡ comma ∷ left → Passes (behind comma (SpellsMoreClosed sofar)) SpellsClosed stops_anywhere left tokens
   comma_passes comma left split = passes_through (passes_behind (SpellsMoreClosed sofar) stops_anywhere comma left rest split) passes
 
-  pub more_err : (comma : Token) (left : List Token) (e : ParseError) → rest ≡ comma ∷ left → comma.kind ≡ kind.Mark mark.Comma → Fails (SpellsExpr whole) (Stops whole) left e → Fails SpellsClosed stops_anywhere tokens e
+  pub more_err : (comma : Token) (left : List Token) (e : ParseError) → rest ≡ comma ∷ left → comma.kind ≡ kind.Mark mark.Comma → Fails (SpellsExpr whole) (Stops whole) left e
+      → Fails SpellsClosed stops_anywhere tokens e
   more_err comma left e split same h =
       passed_error (behind comma (SpellsMoreClosed sofar)) SpellsClosed stops_anywhere left tokens e (comma_passes comma left split)
       (after_first (SpellsExpr whole) (Stops whole) (λ x. SpellsMoreClosed (sofar ++ x ∷ [])) (behind comma (SpellsMoreClosed sofar)) stops_anywhere (more_rule sofar comma same) left e h)
 
-  pub more_passes : (comma : Token) (left middle : List Token) (e : Expr) (args : List Expr) → args ≡ sofar ++ e ∷ [] → rest ≡ comma ∷ left → comma.kind ≡ kind.Mark mark.Comma → Found (SpellsExpr whole) (Stops whole) left middle e → Passes (SpellsMoreClosed args) SpellsClosed stops_anywhere middle tokens
+  pub more_passes : (comma : Token) (left middle : List Token) (e : Expr) (args : List Expr) → args ≡ sofar ++ e ∷ [] → rest ≡ comma ∷ left → comma.kind ≡ kind.Mark mark.Comma
+      → Found (SpellsExpr whole) (Stops whole) left middle e → Passes (SpellsMoreClosed args) SpellsClosed stops_anywhere middle tokens
   more_passes comma left middle e args is split same f =
       let with_args : List Expr → Type 0 = λ x. Passes (SpellsMoreClosed x) SpellsClosed stops_anywhere middle tokens in
-      subst with_args (sym is) (passes_through (passes_second (SpellsExpr whole) (Stops whole) (λ x. SpellsMoreClosed (sofar ++ x ∷ [])) (behind comma (SpellsMoreClosed sofar)) stops_anywhere (more_rule sofar comma same) left middle e f) (comma_passes comma left split))
+      subst with_args (sym is) (passes_through (passes_second (SpellsExpr whole) (Stops whole) (λ x. SpellsMoreClosed (sofar ++ x ∷ [])) (behind comma (SpellsMoreClosed sofar)) stops_anywhere
+      (more_rule sofar comma same) left middle e f) (comma_passes comma left split))
 
   closing_passes : BeginsOtherThan (kind.Mark mark.Comma) rest → Passes (IsTokenThen sofar) SpellsClosed stops_anywhere rest tokens
-  closing_passes other = passes_through (passes_same _ _ stops_anywhere rest (last_rule sofar)) (passes_through (known_other (kind.Mark mark.Comma) (SpellsMoreClosed sofar) stops_anywhere rest other) passes)
+  closing_passes other = passes_through (passes_same _ _ stops_anywhere rest (last_rule sofar))
+      (passes_through (known_other (kind.Mark mark.Comma) (SpellsMoreClosed sofar) stops_anywhere rest other) passes)
 
   pub last_err : (e : ParseError) → BeginsOtherThan (kind.Mark mark.Comma) rest → Fails (IsToken (kind.Mark mark.CloseParen)) stops_anywhere rest e → Fails SpellsClosed stops_anywhere tokens e
   last_err e other h =
       passed_error (IsTokenThen sofar) SpellsClosed stops_anywhere rest tokens e (closing_passes other)
       (after_first (IsToken (kind.Mark mark.CloseParen)) stops_anywhere (λ closing. Returns sofar) (IsTokenThen sofar) stops_anywhere (closes_rule mark.CloseParen sofar stops_anywhere) rest e h)
 
-  pub last_ok : (left : List Token) (closing : Token) → BeginsOtherThan (kind.Mark mark.Comma) rest → Found (IsToken (kind.Mark mark.CloseParen)) stops_anywhere rest left closing → Found SpellsClosed stops_anywhere tokens left sofar
+  pub last_ok : (left : List Token) (closing : Token) → BeginsOtherThan (kind.Mark mark.Comma) rest → Found (IsToken (kind.Mark mark.CloseParen)) stops_anywhere rest left closing
+      → Found SpellsClosed stops_anywhere tokens left sofar
   last_ok left closing other f =
       (closing_passes other).found left sofar
-      ((passes_second (IsToken (kind.Mark mark.CloseParen)) stops_anywhere (λ closing. Returns sofar) (IsTokenThen sofar) stops_anywhere (closes_rule mark.CloseParen sofar stops_anywhere) rest left closing f).found left sofar (returns_found sofar stops_anywhere left tt f.ended))
+      ((passes_second (IsToken (kind.Mark mark.CloseParen)) stops_anywhere (λ closing. Returns sofar) (IsTokenThen sofar) stops_anywhere (closes_rule mark.CloseParen sofar stops_anywhere) rest left
+      closing f).found left sofar (returns_found sofar stops_anywhere left tt f.ended))

@@ -21,7 +21,8 @@ use Rattle.csl_grammar.specs.Programs.{Each, MoreOf, ListOf}
 use Rattle.csl_grammar.specs.Expressions.{level_of, mark_of, SpellsArguments, SpellsMore}
 
 -- The tree stands at the front of the tokens, whatever follows it, and cannot go on with what does.
-pub record Found {T : Type 0} (spells : List Token → List Token → T → Type 0) (stops : List Token → Type 0) (tokens rest : List Token) (tree : T) : Type 0 where
+pub record Found {T : Type 0} (spells : List Token → List Token → T → Type 0) (stops : List Token → Type 0) (tokens rest : List Token)
+    (tree : T) : Type 0 where
   pub read : List Token
   pub split : tokens ≡ read ++ rest
   pub spelled : (others : List Token) → spells (read ++ others) others tree
@@ -30,7 +31,8 @@ pub record Found {T : Type 0} (spells : List Token → List Token → T → Type
 
 -- The token at that place is the first that no tree allows: with the tokens before it some tree can be
 -- finished, and no list that begins with these and it has a tree at its front.
-pub record Refused {T : Type 0} (spells : List Token → List Token → T → Type 0) (stops : List Token → Type 0) (tokens : List Token) (at : ℕ) : Type 0 where
+pub record Refused {T : Type 0} (spells : List Token → List Token → T → Type 0) (stops : List Token → Type 0) (tokens : List Token)
+    (at : ℕ) : Type 0 where
   pub read : List Token
   pub token : Token
   pub left : List Token
@@ -48,7 +50,8 @@ Fails spells stops tokens (error.TooDeep at) = ⊥
 Fails spells stops tokens (error.Unexpected at) = Refused spells stops tokens at
 
 -- What a reader of a rule returned, seen as a tree and the tokens behind it.
-abbrev pub Answers : {X T : Type 0} → (List Token → List Token → T → Type 0) → (List Token → Type 0) → List Token → (X → T × List Token) → Result X ParseError → Type 0
+abbrev pub Answers : {X T : Type 0} → (List Token → List Token → T → Type 0) → (List Token → Type 0) → List Token → (X → T × List Token)
+    → Result X ParseError → Type 0
 Answers spells stops tokens view (Ok x) = Found spells stops tokens (view x).1 (view x).0
 Answers spells stops tokens view (Err e) = Fails spells stops tokens e
 
@@ -119,11 +122,13 @@ Returns known tokens rest tree = (tokens ≡ rest) × (tree ≡ known)
 
 -- the arguments of a call and the parenthesis behind them
 abbrev pub SpellsClosed : List Token → List Token → List Expr → Type 0
-SpellsClosed tokens rest args = (closing : Token) × SpellsArguments tokens (closing ∷ rest) args × (closing.kind ≡ kind.Mark mark.CloseParen)
+SpellsClosed tokens rest args = (closing : Token) × SpellsArguments tokens (closing ∷ rest) args
+    × (closing.kind ≡ kind.Mark mark.CloseParen)
 
 -- the same where some arguments were read already
 abbrev pub SpellsMoreClosed : List Expr → List Token → List Token → List Expr → Type 0
-SpellsMoreClosed sofar tokens rest args = (closing : Token) × (es : List Expr) × SpellsMore tokens (closing ∷ rest) es × (closing.kind ≡ kind.Mark mark.CloseParen) × (args ≡ sofar ++ es)
+SpellsMoreClosed sofar tokens rest args = (closing : Token) × (es : List Expr) × SpellsMore tokens (closing ∷ rest) es
+    × (closing.kind ≡ kind.Mark mark.CloseParen) × (args ≡ sofar ++ es)
 
 -- the tokens begin with a token of that kind
 abbrev pub BeginsAs : TokenKind → List Token → Type 0
@@ -139,15 +144,18 @@ pub data NameTok : List Token → List Token → Name → Type 0 where
 
 -- one token that is a number, with its place
 pub data SizeTok : List Token → List Token → ArraySize → Type 0 where
-  size_tok : {token : Token} {rest : List Token} {n : ℤ} → token.kind ≡ kind.Number n → SizeTok (token ∷ rest) rest (record { at = token.at; number = n })
+  size_tok : {token : Token} {rest : List Token} {n : ℤ} → token.kind ≡ kind.Number n
+      → SizeTok (token ∷ rest) rest (record { at = token.at; number = n })
 
 -- no token, and a tree that is known
 pub data Ret {T : Type 0} (known : T) : List Token → List Token → T → Type 0 where
   ret : {rest : List Token} → Ret known rest rest known
 
 -- one rule and then another, which may look at the first's tree
-pub data Then {A T : Type 0} (first : List Token → List Token → A → Type 0) (second : A → List Token → List Token → T → Type 0) : List Token → List Token → T → Type 0 where
-  seq : {tokens middle rest : List Token} {part : A} {tree : T} → first tokens middle part → second part middle rest tree → Then first second tokens rest tree
+pub data Then {A T : Type 0} (first : List Token → List Token → A → Type 0) (second : A → List Token → List Token → T → Type 0) : List Token
+    → List Token → T → Type 0 where
+  seq : {tokens middle rest : List Token} {part : A} {tree : T} → first tokens middle part → second part middle rest tree
+      → Then first second tokens rest tree
 
 -- one rule or another
 pub data Either {T : Type 0} (one two : List Token → List Token → T → Type 0) : List Token → List Token → T → Type 0 where
@@ -156,11 +164,14 @@ pub data Either {T : Type 0} (one two : List Token → List Token → T → Type
 
 -- the rest of a list whose front was read, and the token of that kind behind it
 abbrev pub Until : {T : Type 0} → TokenKind → (List Token → List Token → T → Type 0) → List T → List Token → List Token → List T → Type 0
-Until {T} k spells sofar tokens rest xs = (closing : Token) × (ys : List T) × Each spells tokens (closing ∷ rest) ys × (closing.kind ≡ k) × (xs ≡ sofar ++ ys)
+Until {T} k spells sofar tokens rest xs = (closing : Token) × (ys : List T) × Each spells tokens (closing ∷ rest) ys × (closing.kind ≡ k)
+    × (xs ≡ sofar ++ ys)
 
 -- the same of a list with commas of which something was read
-abbrev pub MoreUntil : {T : Type 0} → TokenKind → (List Token → List Token → T → Type 0) → List T → List Token → List Token → List T → Type 0
-MoreUntil {T} k spells sofar tokens rest xs = (closing : Token) × (ys : List T) × MoreOf spells tokens (closing ∷ rest) ys × (closing.kind ≡ k) × (xs ≡ sofar ++ ys)
+abbrev pub MoreUntil : {T : Type 0} → TokenKind → (List Token → List Token → T → Type 0) → List T → List Token → List Token → List T
+    → Type 0
+MoreUntil {T} k spells sofar tokens rest xs = (closing : Token) × (ys : List T) × MoreOf spells tokens (closing ∷ rest) ys
+    × (closing.kind ≡ k) × (xs ≡ sofar ++ ys)
 
 -- a list with commas, and the token of that kind behind it
 abbrev pub ListUntil : {T : Type 0} → TokenKind → (List Token → List Token → T → Type 0) → List Token → List Token → List T → Type 0

@@ -7,7 +7,8 @@ ghost use Rattle.csl_tree.specs.declared.token.Mark.TheVariants as mark;
 ghost use Rattle.csl_tree.specs.declared.token.Token.{Token};
 ghost use Rattle.csl_grammar.specs.Expressions.{level_of};
 ghost use Rattle.csl_grammar.specs.Stops.{IsEnded, operator_of, BeginsOtherThan};
-ghost use Rattle.expression_parser.specs.Reading.{Answers, BeginsAs, IsToken, NameTok, SizeTok, stops_anywhere, at_mark, prefix_of, number_of, natural_of, truth_of};
+ghost use Rattle.expression_parser.specs.Reading.{Answers, BeginsAs, IsToken, NameTok, SizeTok, stops_anywhere, at_mark, prefix_of};
+ghost use Rattle.expression_parser.specs.Reading.{number_of, natural_of, truth_of};
 
 use crate::ParseError;
 use cal_terms::NoMemory;
@@ -64,7 +65,8 @@ pub fn expect<'a>(mark: Mark, tokens: &'a [Token]) -> Result<(&'a Token, &'a [To
 /// The tokens behind a comma, if one is at the front.
 pub fn comma(tokens: &[Token]) -> Option<&[Token]>
     requires { IsEnded tokens.now }
-    ensures { MatchOption result (BeginsOtherThan (kind.Mark mark.Comma) tokens.now) (λ rest. (sign : Token) × IsToken (kind.Mark mark.Comma) tokens.now rest.now sign) }
+    ensures { MatchOption result (BeginsOtherThan (kind.Mark mark.Comma) tokens.now)
+        (λ rest. (sign : Token) × IsToken (kind.Mark mark.Comma) tokens.now rest.now sign) }
 {
     let (first, rest) = front(tokens);
     if is_mark(first, Mark::Comma) {
@@ -227,7 +229,8 @@ pub fn natural(token: &Token) -> Option<i64>
 /// The tokens, unless they begin with that mark.
 pub fn unless_mark(mark: Mark, tokens: &[Token]) -> Option<&[Token]>
     requires { IsEnded tokens.now }
-    ensures { MatchOption result (BeginsAs (kind.Mark mark) tokens.now) (λ here. (here.now ≡ tokens.now) × BeginsOtherThan (kind.Mark mark) tokens.now) }
+    ensures { MatchOption result (BeginsAs (kind.Mark mark) tokens.now)
+        (λ here. (here.now ≡ tokens.now) × BeginsOtherThan (kind.Mark mark) tokens.now) }
 {
     let (first, _) = front(tokens);
     if is_mark(first, mark) {
@@ -240,7 +243,8 @@ pub fn unless_mark(mark: Mark, tokens: &[Token]) -> Option<&[Token]>
 /// The tokens, unless they begin with that keyword.
 pub fn unless_word(word: Keyword, tokens: &[Token]) -> Option<&[Token]>
     requires { IsEnded tokens.now }
-    ensures { MatchOption result (BeginsAs (kind.Word word) tokens.now) (λ here. (here.now ≡ tokens.now) × BeginsOtherThan (kind.Word word) tokens.now) }
+    ensures { MatchOption result (BeginsAs (kind.Word word) tokens.now)
+        (λ here. (here.now ≡ tokens.now) × BeginsOtherThan (kind.Word word) tokens.now) }
 {
     let (first, _) = front(tokens);
     if is_word(first, word) {
@@ -253,7 +257,8 @@ pub fn unless_word(word: Keyword, tokens: &[Token]) -> Option<&[Token]>
 /// The tokens behind an `else`, if one is at the front.
 pub fn behind_else(tokens: &[Token]) -> Option<&[Token]>
     requires { IsEnded tokens.now }
-    ensures { MatchOption result (BeginsOtherThan (kind.Word word.Else) tokens.now) (λ rest. (first : Token) × IsToken (kind.Word word.Else) tokens.now rest.now first) }
+    ensures { MatchOption result (BeginsOtherThan (kind.Word word.Else) tokens.now)
+        (λ rest. (first : Token) × IsToken (kind.Word word.Else) tokens.now rest.now first) }
 {
     let (first, rest) = front(tokens);
     if is_word(first, Keyword::Else) {

@@ -133,7 +133,8 @@ words_in out frames pool n f d view same is =
 pub given_in : (out : List Bool) (frames : List (List ℤ)) (pool : Pool) (n f : ℕ) → held out frames ≡ pool → n ≡ f → held (set out n false) frames ≡ set pool f None
 given_in out frames pool n f view same = held-given out frames n ∙ ap (λ (p : Pool). set p n None) view ∙ ap (λ (k : ℕ). set pool k None) same
 
-pub written_in : (out : List Bool) (frames : List (List ℤ)) (pool : Pool) (n f : ℕ) (words : List ℤ) → held out frames ≡ pool → n ≡ f → IsOut pool f → held out (set frames n words) ≡ set pool f (Some words)
+pub written_in : (out : List Bool) (frames : List (List ℤ)) (pool : Pool) (n f : ℕ) (words : List ℤ) → held out frames ≡ pool → n ≡ f → IsOut pool f
+    → held out (set frames n words) ≡ set pool f (Some words)
 written_in out frames pool n f words view same is =
     held-words out frames n words (kept_in out frames pool n f [] view same is).set ∙ ap (λ (p : Pool). set p n (Some words)) view ∙ ap (λ (k : ℕ). set pool k (Some words)) same
 
@@ -144,7 +145,8 @@ all_out out frames pool from f view is first q below =
     in
     rw (← view) (out_from_flag out frames q is.flags flag)
 
-pub takes_in : (out : List Bool) (frames : List (List ℤ)) (pool : Pool) (from f : ℕ) → held out frames ≡ pool → IsHeld out frames from → IsFirstFree out from f → f < length out → TakesLowest pool (held (set out f true) frames) f
+pub takes_in : (out : List Bool) (frames : List (List ℤ)) (pool : Pool) (from f : ℕ) → held out frames ≡ pool → IsHeld out frames from → IsFirstFree out from f → f < length out
+    → TakesLowest pool (held (set out f true) frames) f
 takes_in out frames pool from f view is first there =
     let lengths = length-held out frames is.flags in
     let same = ap (λ (p : Pool). length p) view in

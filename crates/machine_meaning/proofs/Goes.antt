@@ -43,13 +43,15 @@ module _ (m : Module) (ok : IsVerified m) (whole : ℕ) where
       (λ k later h. enough (most_steps m s) (most_steps m later + 1) k later h.0 h.1 (omega arith))
 
   -- main goes on where its run comes to
-  pub comes : (steps k : ℕ) (s : State) (n : Next) → Fits m false s → most_steps m s < k → runs m k s ≡ Comes n → main_of m whole steps s ≡ main_at m whole steps (λ more later. main_of m whole more later) (Some n)
+  pub comes : (steps k : ℕ) (s : State) (n : Next) → Fits m false s → most_steps m s < k → runs m k s ≡ Comes n
+      → main_of m whole steps s ≡ main_at m whole steps (λ more later. main_of m whole more later) (Some n)
   comes steps zero s n fits lt e = absurd (omega arith)
   comes steps (suc k) s n fits lt e =
       goes_on steps s fits ∙ told (next m s) (next_good m ok false s fits) e (λ s' h e'. comes steps k s' n h.0 (omega (arith, h.1, lt)) e')
     where
       told : (o : Option Next) → Good false (Follows m false (function_runs m ok false) s) o → run.goes_on (runs m k) s o ≡ Comes n
-          → ((s' : State) → Follows m false (function_runs m ok false) s s' → runs m k s' ≡ Comes n → main_of m whole steps s' ≡ main_at m whole steps (λ more later. main_of m whole more later) (Some n))
+          → ((s' : State) → Follows m false (function_runs m ok false) s s' → runs m k s' ≡ Comes n
+          → main_of m whole steps s' ≡ main_at m whole steps (λ more later. main_of m whole more later) (Some n))
           → main_at m whole steps (λ more later. main_of m whole more later) o ≡ main_at m whole steps (λ more later. main_of m whole more later) (Some n)
       told None g e more = absurd g
       told (Some (On s')) g e more = more s' g e
@@ -62,4 +64,5 @@ pub main_goes_on : (m : Module) → IsVerified m → MainGoesOn m
 main_goes_on m ok memory fuel whole steps s reached = goes_on m ok whole steps s (reached_from m ok false (main_beginning m memory fuel) s (main_fits m ok memory fuel) reached)
 
 pub main_comes : (m : Module) → IsVerified m → MainComes m
-main_comes m ok memory fuel whole steps s n reached e = comes m ok whole steps (most_steps m s + 1) s n (reached_from m ok false (main_beginning m memory fuel) s (main_fits m ok memory fuel) reached) (omega arith) e
+main_comes m ok memory fuel whole steps s n reached e = comes m ok whole steps (most_steps m s + 1) s n (reached_from m ok false (main_beginning m memory fuel) s (main_fits m ok memory fuel) reached)
+    (omega arith) e

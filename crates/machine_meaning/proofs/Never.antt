@@ -11,7 +11,8 @@ use Rattle.bytecode.specs.declared.module.Module.{Module}
 use Rattle.bytecode.specs.Spelling.{FitsBlock}
 use Rattle.code_verify.specs.Rules.{Stands, IsVerified, IsPlainArray, IsNotMains, MayStandInMain, UsesNoTally, UsesTally, Itself, Through}
 use Rattle.machine_meaning.specs.Machine.{◌>>=◌, kind_of, State, Next, On, Prints, Opens, Ends, Traps, step, next}
-use Rattle.machine_meaning.specs.Runs.{main_beginning, LeadsTo, Reached, Start, Then, Begins, Mains, Routines, routine_beginning, Comes, Goes, runs, goes_on, instructions_in, most_steps, NeverStuck, EndsInTime, IsEnd, RoutinesEnd}
+use Rattle.machine_meaning.specs.Runs.{main_beginning, LeadsTo, Reached, Start, Then, Begins, Mains, Routines, routine_beginning, Comes, Goes, runs, goes_on, instructions_in, most_steps, NeverStuck}
+use Rattle.machine_meaning.specs.Runs.{EndsInTime, IsEnd, RoutinesEnd}
 use Rattle.machine_meaning.specs.Fitting.{MayRun, Runs, Fits}
 use Rattle.machine_meaning.proofs.Steps.{Good, Follows, begun_fits, step_good}
 
@@ -108,7 +109,8 @@ module _ (m : Module) (ok : IsVerified m) where
   pub routine_fits : (b : ℕ) (block : Code) (width id : ℕ) (opening : Memory) (fuel : ℕ) → slice_get m.blocks b ≡ Some block → Fits m true (routine_beginning block width id opening fuel)
   routine_fits b block width id opening fuel h = record {
     owner = refl;
-    call = begun_fits m true (function_runs true) block (block_runs b block h) (Int (pos width) ∷ Int (pos id) ∷ []) (rw ((all_at FitsBlock m.blocks b block ok.spelled.blocks.1 h).params, (ok.blocks b block h).params.1) refl);
+    call = begun_fits m true (function_runs true) block (block_runs b block h) (Int (pos width) ∷ Int (pos id) ∷ [])
+        (rw ((all_at FitsBlock m.blocks b block ok.spelled.blocks.1 h).params, (ok.blocks b block h).params.1) refl);
     waits = tt;
     few = omega arith;
   }
@@ -125,7 +127,8 @@ module _ (m : Module) (ok : IsVerified m) where
   pub reached_from : (r : Bool) (first s : State) → Fits m r first → Reached m first s → Fits m r s
   reached_from r first s fits Start = fits
   reached_from r first s fits (Then s1 s2 n reached e l) =
-      led m r (Follows m r (function_runs r) s1) (λ t h. h.0) n s2 (subst (λ (o : Option Next). Good r (Follows m r (function_runs r) s1) o) e (next_good r s1 (reached_from r first s1 fits reached))) l
+      led m r (Follows m r (function_runs r) s1) (λ t h. h.0) n s2 (subst (λ (o : Option Next). Good r (Follows m r (function_runs r) s1) o) e (next_good r s1 (reached_from r first s1 fits reached)))
+      l
 
   reached_fits : (first s : State) → Begins m first → Reached m first s → (r : Bool) × Fits m r s
   reached_fits first s b reached = let f = begins_fit first b in (f.0, reached_from f.0 first s f.1 reached)
@@ -153,7 +156,8 @@ module _ (m : Module) (ok : IsVerified m) where
   comes_to_end zero s fits lt = absurd (omega arith)
   comes_to_end (suc n) s fits lt = cases (next m s) (next_good true s fits) (λ s' h. comes_to_end n s' h.0 (omega (arith, h.1, lt)))
     where
-      cases : (o : Option Next) → Good true (Follows m true (function_runs true) s) o → ((s' : State) → Follows m true (function_runs true) s s' → (x : Next) × (runs m n s' ≡ Comes x) × IsEnd x) → (x : Next) × (goes_on (runs m n) s o ≡ Comes x) × IsEnd x
+      cases : (o : Option Next) → Good true (Follows m true (function_runs true) s) o → ((s' : State) → Follows m true (function_runs true) s s' → (x : Next) × (runs m n s' ≡ Comes x) × IsEnd x)
+          → (x : Next) × (goes_on (runs m n) s o ≡ Comes x) × IsEnd x
       cases None g ih = absurd g
       cases (Some (On s')) g ih = ih s' g
       cases (Some (Prints line s')) g ih = let clash = g.0 in absurd cc
@@ -162,4 +166,5 @@ module _ (m : Module) (ok : IsVerified m) where
       cases (Some (Traps c store fuel)) g ih = (Traps c store fuel, refl, tt)
 
   pub routines_end : RoutinesEnd m
-  routines_end b block width id opening fuel at = comes_to_end (most_steps m (routine_beginning block width id opening fuel) + 1) (routine_beginning block width id opening fuel) (routine_fits b block width id opening fuel at) (omega arith)
+  routines_end b block width id opening fuel at = comes_to_end (most_steps m (routine_beginning block width id opening fuel) + 1) (routine_beginning block width id opening fuel)
+      (routine_fits b block width id opening fuel at) (omega arith)

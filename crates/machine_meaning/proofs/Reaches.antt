@@ -69,15 +69,18 @@ module _ (m : Module) (ok : IsVerified m) where
 
   pub main_traps : MainTraps m
   main_traps memory fuel whole steps s cause store left reached to =
-      main.comes m ok whole steps (suc (most_steps m s) + to.0) s (Traps cause store left) (reached_from m ok false (main_beginning m memory fuel) s (main_fits m ok memory fuel) reached) (omega arith) (in_more m to.0 (suc (most_steps m s) + to.0) s (Traps cause store left) (omega arith) to.1)
+      main.comes m ok whole steps (suc (most_steps m s) + to.0) s (Traps cause store left) (reached_from m ok false (main_beginning m memory fuel) s (main_fits m ok memory fuel) reached) (omega arith)
+      (in_more m to.0 (suc (most_steps m s) + to.0) s (Traps cause store left) (omega arith) to.1)
 
   pub routine_ends : RoutineEnds m
   routine_ends b block width id opening fuel s store left at to ends =
       let there = then_comes m (routine_beginning block width id opening fuel) s (Ends store left) to (suc zero, ap (λ (o : Option Next). goes_on (runs m zero) s o) ends) in
       let ended = routines_end m ok b block width id opening fuel at in
-      ap outcome_of (ended.1 ∙ ap (λ (n : Next). Comes n) (one_end m (most_steps m (routine_beginning block width id opening fuel) + 1) there.0 (routine_beginning block width id opening fuel) ended.0 (Ends store left) ended.1 there.1))
+      ap outcome_of (ended.1 ∙ ap (λ (n : Next). Comes n) (one_end m (most_steps m (routine_beginning block width id opening fuel) + 1) there.0 (routine_beginning block width id opening fuel) ended.0
+      (Ends store left) ended.1 there.1))
 
   pub routine_traps : RoutineTraps m
   routine_traps b block width id opening fuel cause store left at there =
       let ended = routines_end m ok b block width id opening fuel at in
-      ap outcome_of (ended.1 ∙ ap (λ (n : Next). Comes n) (one_end m (most_steps m (routine_beginning block width id opening fuel) + 1) there.0 (routine_beginning block width id opening fuel) ended.0 (Traps cause store left) ended.1 there.1))
+      ap outcome_of (ended.1 ∙ ap (λ (n : Next). Comes n) (one_end m (most_steps m (routine_beginning block width id opening fuel) + 1) there.0 (routine_beginning block width id opening fuel) ended.0
+      (Traps cause store left) ended.1 there.1))

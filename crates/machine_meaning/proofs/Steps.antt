@@ -1,5 +1,6 @@
 -- A step from a state that fits leads to one that fits, and there always is one.
-use Rattle.std.proofs.Common.{◌≡◌, ◌≢◌, ℕ, zero, suc, ◌+◌, ◌-◌, ◌*◌, ◌<◌, ◌≤◌, Bool, true, false, not, cond, ltb, List, [], ◌∷◌, ◌++◌, length, take, drop, Option, Some, None, Result, Ok, Err, refl, sym, ap, subst, ◌∙◌, arith, map, reverse}
+use Rattle.std.proofs.Common.{◌≡◌, ◌≢◌, ℕ, zero, suc, ◌+◌, ◌-◌, ◌*◌, ◌<◌, ◌≤◌, Bool, true, false, not, cond, ltb, List, [], ◌∷◌, ◌++◌, length, take, drop, Option, Some, None, Result, Ok, Err, refl}
+use Rattle.std.proofs.Common.{sym, ap, subst, ◌∙◌, arith, map, reverse}
 use Rattle.std.specs.Prelude.{ℤ, pos, negsuc, ◌+ℤ◌, ◌&&◌, ◌||◌, slice_get, slice_set, ◌==◌, IsTrue}
 use Rattle.std.specs.Option.{option_map}
 use Rattle.std.specs.List.{AllByRecursion, Contains, list_any}
@@ -29,7 +30,9 @@ use Rattle.bytecode.specs.declared.module.Module.{Module}
 use Rattle.code_verify.specs.Kinds as kinds
 use Rattle.code_verify.specs.Kinds.{Kinds, after, below, swaps, compares, result, parameters, items_kinds, item_kinds, ints, same_kind}
 use Rattle.code_verify.specs.Rules.{KindsAt, IsRight, leads, HasText, IsTally, HoldsNoTally, UsesTally}
-use Rattle.machine_meaning.specs.Machine.{◌>>=◌, kind_of, first_value, Call, State, Next, On, Prints, Opens, Ends, Traps, number, truth, numbers, equal, split, many_numbers, on_with, at_target, pushes, leaves_store, writes, in_routine, is_tally, may_use, using, item_at, at_item, spends, begun, most_callers, enters, calls, given_back, leaves, stores, drops, pieces, prints, opens, opens_blocks, step}
+use Rattle.machine_meaning.specs.Machine.{◌>>=◌, kind_of, first_value, Call, State, Next, On, Prints, Opens, Ends, Traps, number, truth, numbers, equal, split, many_numbers, on_with, at_target}
+use Rattle.machine_meaning.specs.Machine.{pushes, leaves_store, writes, in_routine, is_tally, may_use, using, item_at, at_item, spends, begun, most_callers, enters, calls, given_back, leaves, stores}
+use Rattle.machine_meaning.specs.Machine.{drops, pieces, prints, opens, opens_blocks, step}
 use Rattle.machine_meaning.specs.Runs.{instructions, ahead, all_ahead, most_steps}
 use Rattle.machine_meaning.specs.Fitting.{MayRun, Runs, IsCall, Wait, Fits}
 
@@ -47,24 +50,28 @@ some_is x y o p q = cc
 
 -- ---- operands of known kinds
 
-a_number : (r : Bool) (Q : State → Type 0) (pushed rest : Kinds) (f : ℤ × List Val → Option Next) (vs : List Val) → swaps (ty.Int ∷ []) pushed (map kind_of vs) ≡ Some rest → ((z : ℤ) (more : List Val) → rest ≡ pushed ++ map kind_of more → Good r Q (f (z, more))) → Good r Q (number vs >>= f)
+a_number : (r : Bool) (Q : State → Type 0) (pushed rest : Kinds) (f : ℤ × List Val → Option Next) (vs : List Val) → swaps (ty.Int ∷ []) pushed (map kind_of vs) ≡ Some rest
+    → ((z : ℤ) (more : List Val) → rest ≡ pushed ++ map kind_of more → Good r Q (f (z, more))) → Good r Q (number vs >>= f)
 a_number r Q pushed rest f [] h go = absurd cc
 a_number r Q pushed rest f (Int z ∷ vs) h go = go z vs cc
 a_number r Q pushed rest f (Truth b ∷ vs) h go = absurd cc
 
-a_truth : (r : Bool) (Q : State → Type 0) (pushed rest : Kinds) (f : Bool × List Val → Option Next) (vs : List Val) → swaps (ty.Bool ∷ []) pushed (map kind_of vs) ≡ Some rest → ((b : Bool) (more : List Val) → rest ≡ pushed ++ map kind_of more → Good r Q (f (b, more))) → Good r Q (truth vs >>= f)
+a_truth : (r : Bool) (Q : State → Type 0) (pushed rest : Kinds) (f : Bool × List Val → Option Next) (vs : List Val) → swaps (ty.Bool ∷ []) pushed (map kind_of vs) ≡ Some rest
+    → ((b : Bool) (more : List Val) → rest ≡ pushed ++ map kind_of more → Good r Q (f (b, more))) → Good r Q (truth vs >>= f)
 a_truth r Q pushed rest f [] h go = absurd cc
 a_truth r Q pushed rest f (Truth b ∷ vs) h go = go b vs cc
 a_truth r Q pushed rest f (Int z ∷ vs) h go = absurd cc
 
-two_numbers : (r : Bool) (Q : State → Type 0) (pushed rest : Kinds) (f : ℤ × ℤ × List Val → Option Next) (vs : List Val) → swaps (ty.Int ∷ ty.Int ∷ []) pushed (map kind_of vs) ≡ Some rest → ((x y : ℤ) (more : List Val) → rest ≡ pushed ++ map kind_of more → Good r Q (f (x, y, more))) → Good r Q (numbers vs >>= f)
+two_numbers : (r : Bool) (Q : State → Type 0) (pushed rest : Kinds) (f : ℤ × ℤ × List Val → Option Next) (vs : List Val) → swaps (ty.Int ∷ ty.Int ∷ []) pushed (map kind_of vs) ≡ Some rest
+    → ((x y : ℤ) (more : List Val) → rest ≡ pushed ++ map kind_of more → Good r Q (f (x, y, more))) → Good r Q (numbers vs >>= f)
 two_numbers r Q pushed rest f [] h go = absurd cc
 two_numbers r Q pushed rest f (Truth b ∷ vs) h go = absurd cc
 two_numbers r Q pushed rest f (Int y ∷ []) h go = absurd cc
 two_numbers r Q pushed rest f (Int y ∷ Truth b ∷ vs) h go = absurd cc
 two_numbers r Q pushed rest f (Int y ∷ Int x ∷ vs) h go = go x y vs cc
 
-two_equal : (r : Bool) (Q : State → Type 0) (rest : Kinds) (f : Bool × List Val → Option Next) (vs : List Val) → compares (map kind_of vs) ≡ Some rest → ((b : Bool) (more : List Val) → rest ≡ ty.Bool ∷ map kind_of more → Good r Q (f (b, more))) → Good r Q (equal vs >>= f)
+two_equal : (r : Bool) (Q : State → Type 0) (rest : Kinds) (f : Bool × List Val → Option Next) (vs : List Val) → compares (map kind_of vs) ≡ Some rest
+    → ((b : Bool) (more : List Val) → rest ≡ ty.Bool ∷ map kind_of more → Good r Q (f (b, more))) → Good r Q (equal vs >>= f)
 two_equal r Q rest f [] h go = absurd cc
 two_equal r Q rest f (Truth b ∷ []) h go = absurd cc
 two_equal r Q rest f (Int y ∷ []) h go = absurd cc
@@ -73,11 +80,13 @@ two_equal r Q rest f (Truth b ∷ Int x ∷ vs) h go = absurd cc
 two_equal r Q rest f (Int y ∷ Int x ∷ vs) h go = go _ vs cc
 two_equal r Q rest f (Truth y ∷ Truth x ∷ vs) h go = go _ vs cc
 
-dropped : (r : Bool) (Q : State → Type 0) (s : State) (rest : Kinds) (vs : List Val) → kinds.drops (map kind_of vs) ≡ Some rest → ((more : List Val) → rest ≡ map kind_of more → Q (on_with s more)) → Good r Q (drops s vs)
+dropped : (r : Bool) (Q : State → Type 0) (s : State) (rest : Kinds) (vs : List Val) → kinds.drops (map kind_of vs) ≡ Some rest → ((more : List Val) → rest ≡ map kind_of more → Q (on_with s more))
+    → Good r Q (drops s vs)
 dropped r Q s rest [] h go = absurd cc
 dropped r Q s rest (v ∷ vs) h go = go vs cc
 
-some_numbers : (r : Bool) (Q : State → Type 0) (n : ℕ) (rest : Kinds) (f : List ℤ × List Val → Option Next) (vs : List Val) → below (ints n) (map kind_of vs) ≡ Some rest → ((zs : List ℤ) (more : List Val) → rest ≡ map kind_of more → Good r Q (f (zs, more))) → Good r Q (many_numbers n vs >>= f)
+some_numbers : (r : Bool) (Q : State → Type 0) (n : ℕ) (rest : Kinds) (f : List ℤ × List Val → Option Next) (vs : List Val) → below (ints n) (map kind_of vs) ≡ Some rest
+    → ((zs : List ℤ) (more : List Val) → rest ≡ map kind_of more → Good r Q (f (zs, more))) → Good r Q (many_numbers n vs >>= f)
 some_numbers r Q zero rest f vs h go = go [] vs cc
 some_numbers r Q (suc n) rest f [] h go = absurd cc
 some_numbers r Q (suc n) rest f (Truth b ∷ vs) h go = absurd cc
@@ -87,17 +96,20 @@ some_numbers r Q (suc n) rest f (Int z ∷ vs) h go = through (many_numbers n vs
     through (Some x) h = h
     through None h = h
 
-split_off : (r : Bool) (Q : State → Type 0) (ks rest : Kinds) (f : List Val × List Val → Option Next) (vs : List Val) → below ks (map kind_of vs) ≡ Some rest → ((front more : List Val) → map kind_of front ≡ ks → rest ≡ map kind_of more → Good r Q (f (front, more))) → Good r Q (split ks vs >>= f)
+split_off : (r : Bool) (Q : State → Type 0) (ks rest : Kinds) (f : List Val × List Val → Option Next) (vs : List Val) → below ks (map kind_of vs) ≡ Some rest
+    → ((front more : List Val) → map kind_of front ≡ ks → rest ≡ map kind_of more → Good r Q (f (front, more))) → Good r Q (split ks vs >>= f)
 split_off r Q [] rest f vs h go = go [] vs refl cc
 split_off r Q (k ∷ ks) rest f [] h go = absurd cc
 split_off r Q (ty.Int ∷ ks) rest f (Truth b ∷ vs) h go = absurd cc
 split_off r Q (ty.Bool ∷ ks) rest f (Int z ∷ vs) h go = absurd cc
-split_off r Q (ty.Int ∷ ks) rest f (Int z ∷ vs) h go = through (split ks vs) (split_off r Q ks rest (λ x. f (Int z ∷ x.0, x.1)) vs h (λ front more e g. go (Int z ∷ front) more (ap (λ (l : Kinds). ty.Int ∷ l) e) g))
+split_off r Q (ty.Int ∷ ks) rest f (Int z ∷ vs) h go = through (split ks vs) (split_off r Q ks rest (λ x. f (Int z ∷ x.0, x.1)) vs h
+    (λ front more e g. go (Int z ∷ front) more (ap (λ (l : Kinds). ty.Int ∷ l) e) g))
   where
     through : (o : Option (List Val × List Val)) → Good r Q (o >>= (λ x. f (Int z ∷ x.0, x.1))) → Good r Q (o >>= (λ parts. Some (Int z ∷ parts.0, parts.1)) >>= f)
     through (Some x) h = h
     through None h = h
-split_off r Q (ty.Bool ∷ ks) rest f (Truth b ∷ vs) h go = through (split ks vs) (split_off r Q ks rest (λ x. f (Truth b ∷ x.0, x.1)) vs h (λ front more e g. go (Truth b ∷ front) more (ap (λ (l : Kinds). ty.Bool ∷ l) e) g))
+split_off r Q (ty.Bool ∷ ks) rest f (Truth b ∷ vs) h go = through (split ks vs) (split_off r Q ks rest (λ x. f (Truth b ∷ x.0, x.1)) vs h
+    (λ front more e g. go (Truth b ∷ front) more (ap (λ (l : Kinds). ty.Bool ∷ l) e) g))
   where
     through : (o : Option (List Val × List Val)) → Good r Q (o >>= (λ x. f (Truth b ∷ x.0, x.1))) → Good r Q (o >>= (λ parts. Some (Truth b ∷ parts.0, parts.1)) >>= f)
     through (Some x) h = h
@@ -179,17 +191,20 @@ module _ (m : Module) (r : Bool) (callee : (f : ℕ) (c : Code) → slice_get m.
     here_within = within taken s.call.code s.call.place (map kind_of s.call.operands) fits.call.runs.sound.is_taken.each fits.call.operands
 
     -- the state behind the instruction, with this store
-    store_fits : (store : Store) → in_routine store ≡ r → (rest : Kinds) → leads instr s.call.place (s.call.place + 1) ≡ true → after m s.call.code instr (map kind_of s.call.operands) ≡ Some rest → (vs : List Val) → rest ≡ map kind_of vs → Follows s (record (on_with s vs) { store = store })
+    store_fits : (store : Store) → in_routine store ≡ r → (rest : Kinds) → leads instr s.call.place (s.call.place + 1) ≡ true → after m s.call.code instr (map kind_of s.call.operands) ≡ Some rest
+        → (vs : List Val) → rest ≡ map kind_of vs → Follows s (record (on_with s vs) { store = store })
     store_fits store owner rest led left vs e =
         let lt : s.call.place < length s.call.code.instrs = here_within in
         (record { owner = owner; call = record { runs = fits.call.runs; locals = fits.call.locals; operands = subst (λ (ks : Kinds). KindsAt taken (s.call.place + 1) ks) e (goes (s.call.place + 1) rest led left) }; waits = fits.waits; few = fits.few }, omega arith)
 
     -- the state behind the instruction
-    on_fits : (rest : Kinds) → leads instr s.call.place (s.call.place + 1) ≡ true → after m s.call.code instr (map kind_of s.call.operands) ≡ Some rest → (vs : List Val) → rest ≡ map kind_of vs → Follows s (on_with s vs)
+    on_fits : (rest : Kinds) → leads instr s.call.place (s.call.place + 1) ≡ true → after m s.call.code instr (map kind_of s.call.operands) ≡ Some rest → (vs : List Val) → rest ≡ map kind_of vs
+        → Follows s (on_with s vs)
     on_fits rest led left vs e = store_fits s.store fits.owner rest led left vs e
 
     -- the state at the instruction's target
-    at_fits : (t : ℕ) (rest : Kinds) → s.call.place < t → leads instr s.call.place t ≡ true → after m s.call.code instr (map kind_of s.call.operands) ≡ Some rest → (vs : List Val) → rest ≡ map kind_of vs → Follows s (at_target s t vs)
+    at_fits : (t : ℕ) (rest : Kinds) → s.call.place < t → leads instr s.call.place t ≡ true → after m s.call.code instr (map kind_of s.call.operands) ≡ Some rest → (vs : List Val)
+        → rest ≡ map kind_of vs → Follows s (at_target s t vs)
     at_fits t rest far led left vs e =
         let lt : s.call.place < length s.call.code.instrs = here_within in
         (record { owner = fits.owner; call = record { runs = fits.call.runs; locals = fits.call.locals; operands = subst (λ (ks : Kinds). KindsAt taken t ks) e (goes t rest led left) }; waits = fits.waits; few = fits.few }, omega arith)
@@ -201,7 +216,8 @@ module _ (m : Module) (r : Bool) (callee : (f : ℕ) (c : Code) → slice_get m.
   push_good Q s vs (Ok z) h = h z
   push_good Q s vs (Err c) h = tt
 
-  leave_store_good : (Q : State → Type 0) (s : State) (vs : List Val) (value : Result Store Cause) → KeepsOwner s.store value → ((store : Store) → in_routine store ≡ in_routine s.store → Q (record (on_with s vs) { store = store })) → Good r Q (Some (leaves_store s vs value))
+  leave_store_good : (Q : State → Type 0) (s : State) (vs : List Val) (value : Result Store Cause) → KeepsOwner s.store value
+      → ((store : Store) → in_routine store ≡ in_routine s.store → Q (record (on_with s vs) { store = store })) → Good r Q (Some (leaves_store s vs value))
   leave_store_good Q s vs (Ok store) keeps h = h store keeps
   leave_store_good Q s vs (Err c) keeps h = tt
 
@@ -221,7 +237,8 @@ module _ (m : Module) (r : Bool) (callee : (f : ℕ) (c : Code) → slice_get m.
   item_good Q s (Some a) f h = h a refl
 
   -- an item of an array that holds no tally word
-  array_good : (Q : State → Type 0) (s : State) (b n : ℕ) (z : ℤ) (f : ℕ → Next) → in_routine s.store ≡ r → b + n ≤ m.words → HoldsNoTally m b n → ((a : ℕ) → Good r Q (Some (f a))) → Good r Q (cond (ltb m.words (b + n)) None (at_item m s (item_at b n z) f))
+  array_good : (Q : State → Type 0) (s : State) (b n : ℕ) (z : ℤ) (f : ℕ → Next) → in_routine s.store ≡ r → b + n ≤ m.words → HoldsNoTally m b n → ((a : ℕ) → Good r Q (Some (f a)))
+      → Good r Q (cond (ltb m.words (b + n)) None (at_item m s (item_at b n z) f))
   array_good Q s b n z f owner le plain h =
       unless Q (ltb m.words (b + n)) (at_item m s (item_at b n z) f) (le-ltb _ _ le)
       (item_good Q s (item_at b n z) f (λ a e. let inside = item_within b n z a e in use_good Q s a (f a) owner (omega (arith, inside.1, le)) (λ yes is. plain a inside.0 inside.1 is) (h a)))
@@ -269,7 +286,8 @@ module _ (m : Module) (r : Bool) (callee : (f : ℕ) (c : Code) → slice_get m.
   kinds_reverse : (vs : List Val) → map kind_of (reverse vs) ≡ reverse (map kind_of vs)
   kinds_reverse [] = refl
   kinds_reverse (v ∷ vs) =
-      ap (λ (l : List Val). map kind_of l) (reverse-append (v ∷ []) vs) ∙ map-append kind_of (reverse vs) (v ∷ []) ∙ ap (λ (l : Kinds). l ++ kind_of v ∷ []) (kinds_reverse vs) ∙ sym (reverse-append (kind_of v ∷ []) (map kind_of vs))
+      ap (λ (l : List Val). map kind_of l) (reverse-append (v ∷ []) vs) ∙ map-append kind_of (reverse vs) (v ∷ []) ∙ ap (λ (l : Kinds). l ++ kind_of v ∷ []) (kinds_reverse vs)
+      ∙ sym (reverse-append (kind_of v ∷ []) (map kind_of vs))
 
   pub begun_fits : (f : Code) → Runs m r f → (args : List Val) → map kind_of args ≡ take f.params f.locals → IsCall m r [] (begun f args)
   begun_fits f ok args e = record {
@@ -278,19 +296,22 @@ module _ (m : Module) (r : Bool) (callee : (f : ℕ) (c : Code) → slice_get m.
     operands = ok.sound.is_taken.first;
   }
 
-  enter_good : (Q : State → Type 0) (f : Code) (args : List Val) (s : State) → (length s.callers ≢ most_callers → Q (record s { call = begun f args; callers = s.call ∷ s.callers })) → Good r Q (Some (enters f args s))
+  enter_good : (Q : State → Type 0) (f : Code) (args : List Val) (s : State) → (length s.callers ≢ most_callers → Q (record s { call = begun f args; callers = s.call ∷ s.callers }))
+      → Good r Q (Some (enters f args s))
   enter_good Q f args s h = tested (length s.callers == most_callers) refl
     where
       tested : (t : Bool) → (length s.callers == most_callers) ≡ t → Good r Q (Some (cond t (Traps cause.TooDeep s.store s.fuel) (On (record s { call = begun f args; callers = s.call ∷ s.callers }))))
       tested true e = tt
       tested false e = h (eqb-false (length s.callers) most_callers e)
 
-  leave_good : (Q : State → Type 0) (callers : List Call) (vs : List Val) (s : State) → ((c : Call) (rest : List Call) → callers ≡ c ∷ rest → Q (record s { call = record c { operands = vs ++ c.operands }; callers = rest })) → Good r Q (Some (leaves callers vs s))
+  leave_good : (Q : State → Type 0) (callers : List Call) (vs : List Val) (s : State) → ((c : Call) (rest : List Call) → callers ≡ c ∷ rest
+      → Q (record s { call = record c { operands = vs ++ c.operands }; callers = rest })) → Good r Q (Some (leaves callers vs s))
   leave_good Q [] vs s h = tt
   leave_good Q (c ∷ callers) vs s h = h c callers refl
 
   return_good : (Q : State → Type 0) (g : Gives) (vs : List Val) (s : State) (callers : List Call) (rest : Kinds) → swaps (result g) [] (map kind_of vs) ≡ Some rest → rest ≡ []
-      → ((back : List Val) → map kind_of back ≡ result g → (c : Call) (others : List Call) → callers ≡ c ∷ others → Q (record s { call = record c { operands = back ++ c.operands }; callers = others }))
+      → ((back : List Val) → map kind_of back ≡ result g → (c : Call) (others : List Call) → callers ≡ c ∷ others
+      → Q (record s { call = record c { operands = back ++ c.operands }; callers = others }))
       → Good r Q (given_back g vs >>= (λ given. Some (leaves callers given s)))
   return_good Q gives.Nothing [] s callers rest h e w = leave_good Q callers [] s (w [] refl)
   return_good Q gives.Nothing (v ∷ vs) s callers rest h e w = absurd cc
@@ -305,7 +326,8 @@ module _ (m : Module) (r : Bool) (callee : (f : ℕ) (c : Code) → slice_get m.
 
   call_good : (Q : State → Type 0) (s : State) (o : Option Code) (rest : Kinds)
       → kinds.calls o (map kind_of s.call.operands) ≡ Some rest
-      → ((f : Code) (args more : List Val) (left : ℕ) → o ≡ Some f → map kind_of args ≡ take f.params f.locals → rest ≡ result f.gives ++ map kind_of more → s.fuel ≡ suc left → length s.callers ≢ most_callers → Q (record s { call = begun f args; callers = (on_with s more).call ∷ s.callers; fuel = left }))
+      → ((f : Code) (args more : List Val) (left : ℕ) → o ≡ Some f → map kind_of args ≡ take f.params f.locals → rest ≡ result f.gives ++ map kind_of more → s.fuel ≡ suc left
+      → length s.callers ≢ most_callers → Q (record s { call = begun f args; callers = (on_with s more).call ∷ s.callers; fuel = left }))
       → Good r Q (calls o s)
   call_good Q s None rest h go = absurd cc
   call_good Q s (Some f) rest h go =
@@ -314,7 +336,8 @@ module _ (m : Module) (r : Bool) (callee : (f : ℕ) (c : Code) → slice_get m.
       (λ front more e g.
       let args : map kind_of (reverse front) ≡ take f.params f.locals = kinds_reverse front ∙ ap (λ (l : Kinds). reverse l) e ∙ reverse-reverse (take f.params f.locals) in
       let left : rest ≡ result f.gives ++ map kind_of more = found.2 ∙ ap (λ (l : Kinds). result f.gives ++ l) g in
-      spend_good Q (on_with s more) s.fuel (enters f (reverse front)) (λ fuel unit. enter_good Q f (reverse front) (record (on_with s more) { fuel = fuel }) (λ room. go f (reverse front) more fuel refl args left unit room)))
+      spend_good Q (on_with s more) s.fuel (enters f (reverse front)) (λ fuel unit. enter_good Q f (reverse front) (record (on_with s more) { fuel = fuel })
+      (λ room. go f (reverse front) more fuel refl args left unit room)))
 
   -- ---- a printed line
 
@@ -341,7 +364,8 @@ module _ (m : Module) (r : Bool) (callee : (f : ℕ) (c : Code) → slice_get m.
   text_found zero (t ∷ texts) lt = (t, refl)
   text_found (suc index) (t ∷ texts) lt = let less : index < length texts = omega arith in text_found index texts less
 
-  pieces_good : (items : List PrintItem) (rest : Kinds) (vs : List Val) → AllByRecursion (HasText m) items → below (items_kinds items) (map kind_of vs) ≡ Some rest → (x : List (List ℕ) × List Val) × (pieces m items vs ≡ Some x) × (rest ≡ map kind_of x.1)
+  pieces_good : (items : List PrintItem) (rest : Kinds) (vs : List Val) → AllByRecursion (HasText m) items → below (items_kinds items) (map kind_of vs) ≡ Some rest
+      → (x : List (List ℕ) × List Val) × (pieces m items vs ≡ Some x) × (rest ≡ map kind_of x.1)
   pieces_good [] rest vs texts h = (([], vs), refl, cc)
   pieces_good (item.Text index ∷ items) rest vs texts h =
       let parts = below_parts (items_kinds items) [] (map kind_of vs) rest h in
@@ -393,13 +417,16 @@ module _ (m : Module) (r : Bool) (callee : (f : ℕ) (c : Code) → slice_get m.
   loop_falls : (left fuel all long t place more : ℕ) → fuel ≡ suc left → long ≤ all → left * (all + 1) + (long - t + more) < fuel * (all + 1) + (long - place + more)
   loop_falls left fuel all long t place more e h = rw e (omega arith)
 
-  call_falls : (left fuel all new long place more : ℕ) → fuel ≡ suc left → new ≤ all → place < long → left * (all + 1) + (new - 0 + (long - (place + 1) + more)) < fuel * (all + 1) + (long - place + more)
+  call_falls : (left fuel all new long place more : ℕ) → fuel ≡ suc left → new ≤ all → place < long
+      → left * (all + 1) + (new - 0 + (long - (place + 1) + more)) < fuel * (all + 1) + (long - place + more)
   call_falls left fuel all new long place more e h lt = rw e (omega arith)
 
-  returned : (s : State) → Fits m r s → s.call.place < length s.call.code.instrs → (back : List Val) → map kind_of back ≡ result s.call.code.gives → (c : Call) (others : List Call) → s.callers ≡ c ∷ others → Follows s (record s { call = record c { operands = back ++ c.operands }; callers = others })
+  returned : (s : State) → Fits m r s → s.call.place < length s.call.code.instrs → (back : List Val) → map kind_of back ≡ result s.call.code.gives → (c : Call) (others : List Call)
+      → s.callers ≡ c ∷ others → Follows s (record s { call = record c { operands = back ++ c.operands }; callers = others })
   returned s fits lt back kinds_ok c others e =
       let w : Wait m r s.call.code.gives (c ∷ others) = subst (λ (l : List Call). Wait m r s.call.code.gives l) e fits.waits in
-      let kinds_are : result s.call.code.gives ++ map kind_of c.operands ≡ map kind_of (back ++ c.operands) = sym (map-append kind_of back c.operands ∙ ap (λ (l : Kinds). l ++ map kind_of c.operands) kinds_ok) in
+      let kinds_are : result s.call.code.gives ++ map kind_of c.operands ≡ map kind_of (back ++ c.operands) = sym
+      (map-append kind_of back c.operands ∙ ap (λ (l : Kinds). l ++ map kind_of c.operands) kinds_ok) in
       let less : all_ahead s.callers ≡ ahead c + all_ahead others = ap all_ahead e in
       let fewer : length s.callers ≡ suc (length others) = ap length e in
       let few = fits.few in
@@ -408,49 +435,68 @@ module _ (m : Module) (r : Bool) (callee : (f : ℕ) (c : Code) → slice_get m.
   open_follows : (s : State) (left : ℕ) → s.fuel ≡ suc left → (more : List Val) → Follows s (on_with s more) → Follows s (record (on_with s more) { fuel = left })
   open_follows s left e more h = (record { owner = h.0.owner; call = h.0.call; waits = h.0.waits; few = h.0.few }, falls s.fuel e h.1)
     where
-      falls : (fuel : ℕ) → fuel ≡ suc left → fuel * (instructions m + 1) + (ahead (on_with s more).call + all_ahead s.callers) < fuel * (instructions m + 1) + (ahead s.call + all_ahead s.callers) → left * (instructions m + 1) + (ahead (on_with s more).call + all_ahead s.callers) < fuel * (instructions m + 1) + (ahead s.call + all_ahead s.callers)
+      falls : (fuel : ℕ) → fuel ≡ suc left → fuel * (instructions m + 1) + (ahead (on_with s more).call + all_ahead s.callers) < fuel * (instructions m + 1) + (ahead s.call + all_ahead s.callers)
+          → left * (instructions m + 1) + (ahead (on_with s more).call + all_ahead s.callers) < fuel * (instructions m + 1) + (ahead s.call + all_ahead s.callers)
       falls fuel e lt = rw e (omega arith)
 
-  print_good : (Q : State → Type 0) (s : State) (items : List PrintItem) (rest : Kinds) → in_routine s.store ≡ r → r ≡ false → AllByRecursion (HasText m) items → below (items_kinds items) (map kind_of s.call.operands) ≡ Some rest → ((vs : List Val) → rest ≡ map kind_of vs → Q (on_with s vs)) → Good r Q (prints m s items (in_routine s.store))
+  print_good : (Q : State → Type 0) (s : State) (items : List PrintItem) (rest : Kinds) → in_routine s.store ≡ r → r ≡ false → AllByRecursion (HasText m) items
+      → below (items_kinds items) (map kind_of s.call.operands) ≡ Some rest → ((vs : List Val) → rest ≡ map kind_of vs → Q (on_with s vs)) → Good r Q (prints m s items (in_routine s.store))
   print_good Q s items rest owner main texts h go =
       let line = pieces_good items rest s.call.operands texts h in
-      subst (λ (b : Bool). Good r Q (prints m s items b)) (sym (owner ∙ main)) (bind_good Q (pieces m items s.call.operands) (λ x. Some (Prints (line_of x.0) (on_with s x.1))) line.0 line.1 (main, go line.0.1 line.2))
+      subst (λ (b : Bool). Good r Q (prints m s items b)) (sym (owner ∙ main)) (bind_good Q (pieces m items s.call.operands) (λ x. Some (Prints (line_of x.0) (on_with s x.1))) line.0 line.1
+      (main, go line.0.1 line.2))
 
   par_good : (Q : State → Type 0) (s : State) (b n : ℕ) (rest : Kinds) → in_routine s.store ≡ r → r ≡ false → b + n ≤ length m.blocks → below (ints n) (map kind_of s.call.operands) ≡ Some rest
       → ((vs : List Val) (left : ℕ) → s.fuel ≡ suc left → rest ≡ map kind_of vs → Q (record (on_with s vs) { fuel = left })) → Good r Q (opens_blocks m s b n (in_routine s.store))
   par_good Q s b n rest owner main le h go =
       subst (λ (t : Bool). Good r Q (opens_blocks m s b n t)) (sym (owner ∙ main))
       (unless Q (ltb (length m.blocks) (b + n)) (many_numbers n s.call.operands >>= (λ x. Some (opens b (on_with s x.1) (step_widths x.0)))) (le-ltb _ _ le)
-      (some_numbers r Q n rest (λ x. Some (opens b (on_with s x.1) (step_widths x.0))) s.call.operands h (λ zs more e. open_good Q (on_with s more) b (step_widths zs) main (λ left unit. go more left unit e))))
+      (some_numbers r Q n rest (λ x. Some (opens b (on_with s x.1) (step_widths x.0))) s.call.operands h
+      (λ zs more e. open_good Q (on_with s more) b (step_widths zs) main (λ left unit. go more left unit e))))
 
   -- there is a step, and where it leads fits
   pub step_good : (s : State) → Fits m r s → (instr : Instr) → slice_get s.call.code.instrs s.call.place ≡ Some instr → Good r (Follows s) (step m instr s)
-  step_good s fits instr stands = by_instr instr stands (fits.call.runs.sound.right s.call.place instr (map kind_of s.call.operands) stands fits.call.operands) (fits.call.runs.may s.call.place instr stands)
+  step_good s fits instr stands = by_instr instr stands (fits.call.runs.sound.right s.call.place instr (map kind_of s.call.operands) stands fits.call.operands)
+      (fits.call.runs.may s.call.place instr stands)
     where
-      by_instr : (x : Instr) → slice_get s.call.code.instrs s.call.place ≡ Some x → IsRight m s.call.code fits.call.runs.sound.taken s.call.place x (map kind_of s.call.operands) → MayRun m r x → Good r (Follows s) (step m x s)
+      by_instr : (x : Instr) → slice_get s.call.code.instrs s.call.place ≡ Some x → IsRight m s.call.code fits.call.runs.sound.taken s.call.place x (map kind_of s.call.operands) → MayRun m r x
+          → Good r (Follows s) (step m x s)
       by_instr (i.Int z) st k may = on_fits s fits (i.Int z) st _ (same_place _) refl (Int z ∷ s.call.operands) refl
       by_instr i.False st k may = on_fits s fits i.False st _ (same_place _) refl (Truth false ∷ s.call.operands) refl
       by_instr i.True st k may = on_fits s fits i.True st _ (same_place _) refl (Truth true ∷ s.call.operands) refl
-      by_instr i.Add st k may = two_numbers r (Follows s) (ty.Int ∷ []) k.finds.0 _ s.call.operands k.finds.1 (λ x y more e. push_good (Follows s) s more _ (λ z. on_fits s fits i.Add st k.finds.0 (same_place _) k.finds.1 (Int z ∷ more) e))
-      by_instr i.Sub st k may = two_numbers r (Follows s) (ty.Int ∷ []) k.finds.0 _ s.call.operands k.finds.1 (λ x y more e. push_good (Follows s) s more _ (λ z. on_fits s fits i.Sub st k.finds.0 (same_place _) k.finds.1 (Int z ∷ more) e))
-      by_instr i.Mul st k may = two_numbers r (Follows s) (ty.Int ∷ []) k.finds.0 _ s.call.operands k.finds.1 (λ x y more e. push_good (Follows s) s more _ (λ z. on_fits s fits i.Mul st k.finds.0 (same_place _) k.finds.1 (Int z ∷ more) e))
-      by_instr i.Div st k may = two_numbers r (Follows s) (ty.Int ∷ []) k.finds.0 _ s.call.operands k.finds.1 (λ x y more e. push_good (Follows s) s more _ (λ z. on_fits s fits i.Div st k.finds.0 (same_place _) k.finds.1 (Int z ∷ more) e))
-      by_instr i.Rem st k may = two_numbers r (Follows s) (ty.Int ∷ []) k.finds.0 _ s.call.operands k.finds.1 (λ x y more e. push_good (Follows s) s more _ (λ z. on_fits s fits i.Rem st k.finds.0 (same_place _) k.finds.1 (Int z ∷ more) e))
-      by_instr i.Neg st k may = a_number r (Follows s) (ty.Int ∷ []) k.finds.0 _ s.call.operands k.finds.1 (λ x more e. push_good (Follows s) s more _ (λ z. on_fits s fits i.Neg st k.finds.0 (same_place _) k.finds.1 (Int z ∷ more) e))
+      by_instr i.Add st k may = two_numbers r (Follows s) (ty.Int ∷ []) k.finds.0 _ s.call.operands k.finds.1
+          (λ x y more e. push_good (Follows s) s more _ (λ z. on_fits s fits i.Add st k.finds.0 (same_place _) k.finds.1 (Int z ∷ more) e))
+      by_instr i.Sub st k may = two_numbers r (Follows s) (ty.Int ∷ []) k.finds.0 _ s.call.operands k.finds.1
+          (λ x y more e. push_good (Follows s) s more _ (λ z. on_fits s fits i.Sub st k.finds.0 (same_place _) k.finds.1 (Int z ∷ more) e))
+      by_instr i.Mul st k may = two_numbers r (Follows s) (ty.Int ∷ []) k.finds.0 _ s.call.operands k.finds.1
+          (λ x y more e. push_good (Follows s) s more _ (λ z. on_fits s fits i.Mul st k.finds.0 (same_place _) k.finds.1 (Int z ∷ more) e))
+      by_instr i.Div st k may = two_numbers r (Follows s) (ty.Int ∷ []) k.finds.0 _ s.call.operands k.finds.1
+          (λ x y more e. push_good (Follows s) s more _ (λ z. on_fits s fits i.Div st k.finds.0 (same_place _) k.finds.1 (Int z ∷ more) e))
+      by_instr i.Rem st k may = two_numbers r (Follows s) (ty.Int ∷ []) k.finds.0 _ s.call.operands k.finds.1
+          (λ x y more e. push_good (Follows s) s more _ (λ z. on_fits s fits i.Rem st k.finds.0 (same_place _) k.finds.1 (Int z ∷ more) e))
+      by_instr i.Neg st k may = a_number r (Follows s) (ty.Int ∷ []) k.finds.0 _ s.call.operands k.finds.1
+          (λ x more e. push_good (Follows s) s more _ (λ z. on_fits s fits i.Neg st k.finds.0 (same_place _) k.finds.1 (Int z ∷ more) e))
       by_instr i.Not st k may = a_truth r (Follows s) (ty.Bool ∷ []) k.finds.0 _ s.call.operands k.finds.1 (λ b more e. on_fits s fits i.Not st k.finds.0 (same_place _) k.finds.1 (Truth _ ∷ more) e)
       by_instr i.Eq st k may = two_equal r (Follows s) k.finds.0 _ s.call.operands k.finds.1 (λ b more e. on_fits s fits i.Eq st k.finds.0 (same_place _) k.finds.1 (Truth _ ∷ more) e)
       by_instr i.Ne st k may = two_equal r (Follows s) k.finds.0 _ s.call.operands k.finds.1 (λ b more e. on_fits s fits i.Ne st k.finds.0 (same_place _) k.finds.1 (Truth _ ∷ more) e)
-      by_instr i.Lt st k may = two_numbers r (Follows s) (ty.Bool ∷ []) k.finds.0 _ s.call.operands k.finds.1 (λ x y more e. on_fits s fits i.Lt st k.finds.0 (same_place _) k.finds.1 (Truth _ ∷ more) e)
-      by_instr i.Le st k may = two_numbers r (Follows s) (ty.Bool ∷ []) k.finds.0 _ s.call.operands k.finds.1 (λ x y more e. on_fits s fits i.Le st k.finds.0 (same_place _) k.finds.1 (Truth _ ∷ more) e)
-      by_instr i.Gt st k may = two_numbers r (Follows s) (ty.Bool ∷ []) k.finds.0 _ s.call.operands k.finds.1 (λ x y more e. on_fits s fits i.Gt st k.finds.0 (same_place _) k.finds.1 (Truth _ ∷ more) e)
-      by_instr i.Ge st k may = two_numbers r (Follows s) (ty.Bool ∷ []) k.finds.0 _ s.call.operands k.finds.1 (λ x y more e. on_fits s fits i.Ge st k.finds.0 (same_place _) k.finds.1 (Truth _ ∷ more) e)
+      by_instr i.Lt st k may = two_numbers r (Follows s) (ty.Bool ∷ []) k.finds.0 _ s.call.operands k.finds.1
+          (λ x y more e. on_fits s fits i.Lt st k.finds.0 (same_place _) k.finds.1 (Truth _ ∷ more) e)
+      by_instr i.Le st k may = two_numbers r (Follows s) (ty.Bool ∷ []) k.finds.0 _ s.call.operands k.finds.1
+          (λ x y more e. on_fits s fits i.Le st k.finds.0 (same_place _) k.finds.1 (Truth _ ∷ more) e)
+      by_instr i.Gt st k may = two_numbers r (Follows s) (ty.Bool ∷ []) k.finds.0 _ s.call.operands k.finds.1
+          (λ x y more e. on_fits s fits i.Gt st k.finds.0 (same_place _) k.finds.1 (Truth _ ∷ more) e)
+      by_instr i.Ge st k may = two_numbers r (Follows s) (ty.Bool ∷ []) k.finds.0 _ s.call.operands k.finds.1
+          (λ x y more e. on_fits s fits i.Ge st k.finds.0 (same_place _) k.finds.1 (Truth _ ∷ more) e)
       by_instr (i.Load l) st k may =
           let found = local_found s.call.locals s.call.code.locals l fits.call.locals k.in_range in
-          let left : after m s.call.code (i.Load l) (map kind_of s.call.operands) ≡ Some (kind_of found.0 ∷ map kind_of s.call.operands) = ap (λ (o : Option Ty). kinds.loads o (map kind_of s.call.operands)) found.2 in
-          bind_good (Follows s) (slice_get s.call.locals l) _ found.0 found.1 (on_fits s fits (i.Load l) st (kind_of found.0 ∷ map kind_of s.call.operands) (same_place _) left (found.0 ∷ s.call.operands) refl)
+          let left : after m s.call.code (i.Load l) (map kind_of s.call.operands) ≡ Some (kind_of found.0 ∷ map kind_of s.call.operands) = ap
+          (λ (o : Option Ty). kinds.loads o (map kind_of s.call.operands)) found.2 in
+          bind_good (Follows s) (slice_get s.call.locals l) _ found.0 found.1 (on_fits s fits (i.Load l) st (kind_of found.0 ∷ map kind_of s.call.operands) (same_place _) left
+          (found.0 ∷ s.call.operands) refl)
       by_instr (i.Store l) st k may =
           let found = local_found s.call.locals s.call.code.locals l fits.call.locals k.in_range in
-          let taken_off : below (kind_of found.0 ∷ []) (map kind_of s.call.operands) ≡ Some k.finds.0 = sym (ap (λ (o : Option Ty). kinds.stores o (map kind_of s.call.operands)) found.2) ∙ k.finds.1 in
+          let taken_off : below (kind_of found.0 ∷ []) (map kind_of s.call.operands) ≡ Some k.finds.0 = sym (ap (λ (o : Option Ty). kinds.stores o (map kind_of s.call.operands)) found.2)
+          ∙ k.finds.1 in
           let old : slice_get s.call.locals l ≡ Some found.0 = found.1 in
           subst (λ (o : Option Val). Good r (Follows s) (stores s l s.call.operands o)) (sym old)
           (store_good (Follows s) s l k.finds.0 s.call.operands found.0 taken_off
@@ -458,15 +504,28 @@ module _ (m : Module) (r : Bool) (callee : (f : ℕ) (c : Code) → slice_get m.
           let on = on_fits s fits (i.Store l) st k.finds.0 (same_place (s.call.place + 1)) k.finds.1 more e in
           (record { owner = fits.owner; call = record { runs = fits.call.runs; locals = set_kind s.call.locals l v found.0 old same ∙ fits.call.locals; operands = subst (λ (ks : Kinds). KindsAt fits.call.runs.sound.taken (s.call.place + 1) ks) e (goes s fits (i.Store l) st (s.call.place + 1) k.finds.0 (same_place (s.call.place + 1)) k.finds.1) }; waits = fits.waits; few = fits.few }, on.1)))
       by_instr (i.Word a) st k may = use_good (Follows s) s a _ fits.owner k.in_range may (on_fits s fits (i.Word a) st _ (same_place _) refl (Int _ ∷ s.call.operands) refl)
-      by_instr (i.Put a) st k may = a_number r (Follows s) [] k.finds.0 _ s.call.operands k.finds.1 (λ x more e. use_good (Follows s) s a _ fits.owner k.in_range may (store_fits s fits (i.Put a) st (write_word s.store a x) (write_owner s.store a x ∙ fits.owner) k.finds.0 (same_place _) k.finds.1 more e))
-      by_instr (i.AddWord a) st k may = a_number r (Follows s) [] k.finds.0 _ s.call.operands k.finds.1 (λ x more e. if_true (Follows s) (ltb a m.words) _ (lt-ltb _ _ k.in_range) (leave_store_good (Follows s) s more (add_word s.store a x) (sum_owner s.store a (checked (base_of s.store a +ℤ x))) (λ store owner. store_fits s fits (i.AddWord a) st store (owner ∙ fits.owner) k.finds.0 (same_place _) k.finds.1 more e)))
-      by_instr (i.Item b n) st k may = a_number r (Follows s) (ty.Int ∷ []) k.finds.0 _ s.call.operands k.finds.1 (λ x more e. array_good (Follows s) s b n x (λ a. On (on_with s (Int (read_word s.store a) ∷ more))) fits.owner k.in_range.1 may (λ a. on_fits s fits (i.Item b n) st k.finds.0 (same_place _) k.finds.1 (Int (read_word s.store a) ∷ more) e))
-      by_instr (i.SetItem b n) st k may = two_numbers r (Follows s) [] k.finds.0 _ s.call.operands k.finds.1 (λ x y more e. array_good (Follows s) s b n x (λ a. leaves_store s more (writes s.store a (Ok y))) fits.owner k.in_range.1 may (λ a. leave_store_good (Follows s) s more (writes s.store a (Ok y)) (writes_owner s.store a (Ok y)) (λ store owner. store_fits s fits (i.SetItem b n) st store (owner ∙ fits.owner) k.finds.0 (same_place _) k.finds.1 more e)))
-      by_instr (i.AddItem b n) st k may = two_numbers r (Follows s) [] k.finds.0 _ s.call.operands k.finds.1 (λ x y more e. array_good (Follows s) s b n x (λ a. leaves_store s more (writes s.store a (checked (read_word s.store a +ℤ y)))) fits.owner k.in_range.1 may (λ a. leave_store_good (Follows s) s more (writes s.store a (checked (read_word s.store a +ℤ y))) (writes_owner s.store a (checked (read_word s.store a +ℤ y))) (λ store owner. store_fits s fits (i.AddItem b n) st store (owner ∙ fits.owner) k.finds.0 (same_place _) k.finds.1 more e)))
+      by_instr (i.Put a) st k may = a_number r (Follows s) [] k.finds.0 _ s.call.operands k.finds.1
+          (λ x more e. use_good (Follows s) s a _ fits.owner k.in_range may (store_fits s fits (i.Put a) st (write_word s.store a x) (write_owner s.store a x ∙ fits.owner) k.finds.0 (same_place _)
+          k.finds.1 more e))
+      by_instr (i.AddWord a) st k may = a_number r (Follows s) [] k.finds.0 _ s.call.operands k.finds.1
+          (λ x more e. if_true (Follows s) (ltb a m.words) _ (lt-ltb _ _ k.in_range) (leave_store_good (Follows s) s more (add_word s.store a x)
+          (sum_owner s.store a (checked (base_of s.store a +ℤ x))) (λ store owner. store_fits s fits (i.AddWord a) st store (owner ∙ fits.owner) k.finds.0 (same_place _) k.finds.1 more e)))
+      by_instr (i.Item b n) st k may = a_number r (Follows s) (ty.Int ∷ []) k.finds.0 _ s.call.operands k.finds.1
+          (λ x more e. array_good (Follows s) s b n x (λ a. On (on_with s (Int (read_word s.store a) ∷ more))) fits.owner k.in_range.1 may
+          (λ a. on_fits s fits (i.Item b n) st k.finds.0 (same_place _) k.finds.1 (Int (read_word s.store a) ∷ more) e))
+      by_instr (i.SetItem b n) st k may = two_numbers r (Follows s) [] k.finds.0 _ s.call.operands k.finds.1
+          (λ x y more e. array_good (Follows s) s b n x (λ a. leaves_store s more (writes s.store a (Ok y))) fits.owner k.in_range.1 may
+          (λ a. leave_store_good (Follows s) s more (writes s.store a (Ok y)) (writes_owner s.store a (Ok y))
+          (λ store owner. store_fits s fits (i.SetItem b n) st store (owner ∙ fits.owner) k.finds.0 (same_place _) k.finds.1 more e)))
+      by_instr (i.AddItem b n) st k may = two_numbers r (Follows s) [] k.finds.0 _ s.call.operands k.finds.1
+          (λ x y more e. array_good (Follows s) s b n x (λ a. leaves_store s more (writes s.store a (checked (read_word s.store a +ℤ y)))) fits.owner k.in_range.1 may
+          (λ a. leave_store_good (Follows s) s more (writes s.store a (checked (read_word s.store a +ℤ y))) (writes_owner s.store a (checked (read_word s.store a +ℤ y)))
+          (λ store owner. store_fits s fits (i.AddItem b n) st store (owner ∙ fits.owner) k.finds.0 (same_place _) k.finds.1 more e)))
       by_instr (i.Jump t) st k may = at_fits s fits (i.Jump t) st t _ k.ahead (same_place t) refl s.call.operands refl
       by_instr (i.Branch t) st k may =
           a_truth r (Follows s) [] k.finds.0 _ s.call.operands k.finds.1
-          (λ b more e. either (Follows s) b (on_with s more) (at_target s t more) (on_fits s fits (i.Branch t) st k.finds.0 (branch_on (t == s.call.place + 1) (s.call.place + 1)) k.finds.1 more e) (at_fits s fits (i.Branch t) st t k.finds.0 k.ahead (rw (same_place t) refl) k.finds.1 more e))
+          (λ b more e. either (Follows s) b (on_with s more) (at_target s t more) (on_fits s fits (i.Branch t) st k.finds.0 (branch_on (t == s.call.place + 1) (s.call.place + 1)) k.finds.1 more e)
+          (at_fits s fits (i.Branch t) st t k.finds.0 k.ahead (rw (same_place t) refl) k.finds.1 more e))
       by_instr (i.Loop t) st k may =
           let small_code : length s.call.code.instrs ≤ instructions m = fits.call.runs.small in
           spend_good (Follows s) s s.fuel (λ s'. On (at_target s' t s.call.operands)) (λ left unit. (record { owner = fits.owner; call = record { runs = fits.call.runs; locals = fits.call.locals; operands = k.back }; waits = fits.waits; few = fits.few }, loop_falls left s.fuel (instructions m) (length s.call.code.instrs) t s.call.place (all_ahead s.callers) unit small_code))
@@ -481,10 +540,12 @@ module _ (m : Module) (r : Bool) (callee : (f : ℕ) (c : Code) → slice_get m.
           return_good (Follows s) s.call.code.gives s.call.operands s s.callers k.finds.0 k.finds.1 k.finds.2
           (λ back kinds_ok c others e. returned s fits (here_within s fits i.Return st) back kinds_ok c others e)
       by_instr i.Pop st k may = dropped r (Follows s) s k.finds.0 s.call.operands k.finds.1 (λ more e. on_fits s fits i.Pop st k.finds.0 (same_place _) k.finds.1 more e)
-      by_instr i.Assert st k may = a_truth r (Follows s) [] k.finds.0 _ s.call.operands k.finds.1 (λ b more e. assert_good (Follows s) b (on_with s more) s (on_fits s fits i.Assert st k.finds.0 (same_place _) k.finds.1 more e))
+      by_instr i.Assert st k may = a_truth r (Follows s) [] k.finds.0 _ s.call.operands k.finds.1
+          (λ b more e. assert_good (Follows s) b (on_with s more) s (on_fits s fits i.Assert st k.finds.0 (same_place _) k.finds.1 more e))
       by_instr (i.Print items) st k may =
           let found = swap_found (items_kinds items) [] (map kind_of s.call.operands) k.finds.0 k.finds.1 in
           print_good (Follows s) s items found.0 fits.owner may k.in_range found.1 (λ vs e. on_fits s fits (i.Print items) st k.finds.0 (same_place _) k.finds.1 vs (found.2 ∙ e))
       by_instr (i.Par b n) st k may =
           let found = swap_found (ints n) [] (map kind_of s.call.operands) k.finds.0 k.finds.1 in
-          par_good (Follows s) s b n found.0 fits.owner may.0 may.1 found.1 (λ vs left unit e. open_follows s left unit vs (on_fits s fits (i.Par b n) st k.finds.0 (same_place (s.call.place + 1)) k.finds.1 vs (found.2 ∙ e)))
+          par_good (Follows s) s b n found.0 fits.owner may.0 may.1 found.1 (λ vs left unit e. open_follows s left unit vs
+          (on_fits s fits (i.Par b n) st k.finds.0 (same_place (s.call.place + 1)) k.finds.1 vs (found.2 ∙ e)))

@@ -1,5 +1,7 @@
 -- The machine: its states, and the step from each to the next.
-use Rattle.std.specs.Prelude.{ℕ, zero, suc, ◌+◌, ◌==◌, nat_lt, ℤ, pos, negsuc, ◌+ℤ◌, ◌-ℤ◌, ◌*ℤ◌, neg_ℤ, int_lt, int_le, Bool, true, false, not, ◌&&◌, if◌then◌else◌, List, [], ◌∷◌, ◌++◌, length, Option, Some, None, Result, Ok, Err, slice_get, slice_set, take, drop, map, reverse}
+use Rattle.std.specs.Prelude.{ℕ, zero, suc, ◌+◌, ◌==◌, nat_lt, ℤ, pos, negsuc, ◌+ℤ◌, ◌-ℤ◌, ◌*ℤ◌, neg_ℤ, int_lt, int_le, Bool, true, false}
+use Rattle.std.specs.Prelude.{not, ◌&&◌, if◌then◌else◌, List, [], ◌∷◌, ◌++◌, length, Option, Some, None, Result, Ok, Err, slice_get}
+use Rattle.std.specs.Prelude.{slice_set, take, drop, map, reverse}
 use Rattle.std.specs.Ordering.{int_eq}
 use Rattle.std.specs.List.{list_any}
 use Rattle.cal_base.specs.declared.ends.Cause.{Cause}
@@ -207,7 +209,8 @@ abbrev pub stores : State → ℕ → List Val → Option Val → Option Next
 stores s l [] old = None
 stores s l (v ∷ vs) None = None
 stores s l (v ∷ vs) (Some old) =
-    if same_kind (kind_of old) (kind_of v) then Some (On (on_with (record s { call = record s.call { locals = slice_set s.call.locals l v } }) vs)) else None
+    if same_kind (kind_of old) (kind_of v) then Some (On (on_with
+    (record s { call = record s.call { locals = slice_set s.call.locals l v } }) vs)) else None
 
 -- the last operand, of any kind, is dropped
 abbrev pub drops : State → List Val → Option Next
@@ -283,7 +286,8 @@ step m (i.Load l) s = slice_get s.call.locals l >>= (λ v. Some (On (on_with s (
 step m (i.Store l) s = stores s l s.call.operands (slice_get s.call.locals l)
 step m (i.Word a) s = using m s a (On (on_with s (Int (read_word s.store a) ∷ s.call.operands)))
 step m (i.Put a) s = number s.call.operands >>= (λ x. using m s a (On (record (on_with s x.1) { store = write_word s.store a x.0 })))
-step m (i.AddWord a) s = number s.call.operands >>= (λ x. if nat_lt a m.words then Some (leaves_store s x.1 (add_word s.store a x.0)) else None)
+step m (i.AddWord a) s = number s.call.operands >>= (λ x. if nat_lt a m.words then Some (leaves_store s x.1 (add_word s.store a x.0)) else
+    None)
 step m (i.Item b n) s = number s.call.operands >>= (λ x. reads_item m s b n x)
 step m (i.SetItem b n) s = numbers s.call.operands >>= (λ x. writes_item m s b n (λ a. Ok x.1) x.0 x.2)
 step m (i.AddItem b n) s = numbers s.call.operands >>= (λ x. writes_item m s b n (λ a. checked (read_word s.store a +ℤ x.1)) x.0 x.2)

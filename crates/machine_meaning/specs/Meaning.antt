@@ -101,5 +101,6 @@ MainGoesOn m =
 -- from each state that main reaches it goes on where its run comes to: behind a line, behind a parallel step, or nowhere
 abbrev pub MainComes : Module → Type 0
 MainComes m =
-    (memory : Memory) (fuel whole steps : ℕ) (s : State) (n : Next) → Reached m (main_beginning m memory fuel) s → runs m (most_steps m s + 1) s ≡ Comes n
+    (memory : Memory) (fuel whole steps : ℕ) (s : State) (n : Next) → Reached m (main_beginning m memory fuel) s
+    → runs m (most_steps m s + 1) s ≡ Comes n
     → main_of m whole steps s ≡ main_at m whole steps (λ more_steps later. main_of m whole more_steps later) (Some n)

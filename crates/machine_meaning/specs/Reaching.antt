@@ -32,7 +32,8 @@ module _ (m : Module) where
   abbrev pub GivesBack : Code → List Val → ℕ → Store → ℕ → List Val → Store → ℕ → Type 0
   GivesBack f given depth store fuel back store' fuel' =
       (caller : Call) (callers : List Call) → length callers ≡ depth
-      → ComesTo (body f given caller callers store fuel) (record { call = record caller { operands = back ++ caller.operands }; callers = callers; store = store'; fuel = fuel' })
+      → ComesTo (body f given caller callers store fuel) (record
+      { call = record caller { operands = back ++ caller.operands }; callers = callers; store = store'; fuel = fuel' })
 
   -- a function's body, called above this many calls, traps
   abbrev pub BodyTraps : Code → List Val → ℕ → Store → ℕ → Cause → Store → ℕ → Type 0
@@ -70,19 +71,22 @@ module _ (m : Module) where
   -- where a state that main reaches traps, main ends with this fault, behind the parallel steps before it
   abbrev pub MainTraps : Type 0
   MainTraps =
-      (memory : Memory) (fuel whole steps : ℕ) (s : State) (cause : Cause) (store : Store) (left : ℕ) → Reached m (main_beginning m memory fuel) s → TrapsAt s cause store left
+      (memory : Memory) (fuel whole steps : ℕ) (s : State) (cause : Cause) (store : Store) (left : ℕ)
+      → Reached m (main_beginning m memory fuel) s → TrapsAt s cause store left
       → main_of m whole steps s ≡ outline.Ends (MainFault steps cause)
 
   -- a routine whose beginning comes to its last step has just that outcome, with the fuel that is left there
   abbrev pub RoutineEnds : Type 0
   RoutineEnds =
-      (b : ℕ) (block : Code) (width id : ℕ) (opening : Memory) (fuel : ℕ) (s : State) (store : Store) (left : ℕ) → slice_get m.blocks b ≡ Some block
+      (b : ℕ) (block : Code) (width id : ℕ) (opening : Memory) (fuel : ℕ) (s : State) (store : Store) (left : ℕ)
+      → slice_get m.blocks b ≡ Some block
       → ComesTo (routine_beginning block width id opening fuel) s → next m s ≡ Some (Ends store left)
       → routine_outcome m block width id opening fuel ≡ outcome_at Ended store left
 
   -- a routine whose beginning traps has just that outcome, with the fuel that is left there
   abbrev pub RoutineTraps : Type 0
   RoutineTraps =
-      (b : ℕ) (block : Code) (width id : ℕ) (opening : Memory) (fuel : ℕ) (cause : Cause) (store : Store) (left : ℕ) → slice_get m.blocks b ≡ Some block
+      (b : ℕ) (block : Code) (width id : ℕ) (opening : Memory) (fuel : ℕ) (cause : Cause) (store : Store) (left : ℕ)
+      → slice_get m.blocks b ≡ Some block
       → TrapsAt (routine_beginning block width id opening fuel) cause store left
       → routine_outcome m block width id opening fuel ≡ outcome_at (Fault cause) store left

@@ -17,5 +17,6 @@ only_main instrs = record { words = 0; tallies = []; initial = []; texts = []; f
 -- a Return alone shows nothing and is done; a line shows its value; a loop to itself spends its fuel
 pub record WorkedRows : Type 0 where
   pub returns : machine_meaning (only_main (i.Return ∷ [])) 9 ≡ record { events = []; ending = Done 0 }
-  pub prints : machine_meaning (only_main (i.Int (negsuc 2) ∷ i.Print (item.Int ∷ []) ∷ i.Return ∷ [])) 9 ≡ record { events = Line (45 ∷ 51 ∷ 10 ∷ []) ∷ []; ending = Done 0 }
+  pub prints : machine_meaning (only_main (i.Int (negsuc 2) ∷ i.Print (item.Int ∷ []) ∷ i.Return ∷ [])) 9 ≡ record
+      { events = Line (45 ∷ 51 ∷ 10 ∷ []) ∷ []; ending = Done 0 }
   pub loops : machine_meaning (only_main (i.Loop 0 ∷ [])) 3 ≡ record { events = []; ending = MainFault 0 FuelSpent }

@@ -38,7 +38,8 @@ routine_beginning block width id opening fuel = beginning block (Int (pos width)
 -- main begins, or a routine of one of the blocks
 pub data Begins (m : Module) : State → Type 0 where
   Mains : (memory : Memory) (fuel : ℕ) → Begins m (main_beginning m memory fuel)
-  Routines : (b : ℕ) (block : Code) (width id : ℕ) (opening : Memory) (fuel : ℕ) → slice_get m.blocks b ≡ Some block → Begins m (routine_beginning block width id opening fuel)
+  Routines : (b : ℕ) (block : Code) (width id : ℕ) (opening : Memory) (fuel : ℕ) → slice_get m.blocks b ≡ Some block
+      → Begins m (routine_beginning block width id opening fuel)
 
 -- what a run comes to in a number of steps
 pub data Run : Type 0 where
@@ -107,4 +108,5 @@ IsEnd (Traps cause store fuel) = Unit {0}
 abbrev pub RoutinesEnd : Module → Type 0
 RoutinesEnd m =
     (b : ℕ) (block : Code) (width id : ℕ) (opening : Memory) (fuel : ℕ) → slice_get m.blocks b ≡ Some block
-    → (n : Next) × (runs m (most_steps m (routine_beginning block width id opening fuel) + 1) (routine_beginning block width id opening fuel) ≡ Comes n) × IsEnd n
+    → (n : Next) × (runs m (most_steps m (routine_beginning block width id opening fuel) + 1)
+    (routine_beginning block width id opening fuel) ≡ Comes n) × IsEnd n

@@ -2,7 +2,9 @@
 #![tactic(auto)]
 
 ghost use Rattle.machine_meaning.specs.Rows.{WorkedRows};
-ghost use Rattle.machine_meaning.specs.Laws.{VerifiedIsNeverStuck, VerifiedEndsInTime, RoutinesOfVerifiedEnd, CallsCompose, TrapsOfCalls, MainOfVerifiedGoesOn, MainOfVerifiedComes, MainOfVerifiedFollows, TrapsOfVerifiedMain, EndsOfVerifiedRoutines, TrapsOfVerifiedRoutines};
+ghost use Rattle.machine_meaning.specs.Laws.{VerifiedIsNeverStuck, VerifiedEndsInTime, RoutinesOfVerifiedEnd, CallsCompose, TrapsOfCalls};
+ghost use Rattle.machine_meaning.specs.Laws.{MainOfVerifiedGoesOn, MainOfVerifiedComes, MainOfVerifiedFollows, TrapsOfVerifiedMain};
+ghost use Rattle.machine_meaning.specs.Laws.{EndsOfVerifiedRoutines, TrapsOfVerifiedRoutines};
 
 /// The machine of a verified module never reaches a state without a next step: no test on operands, kinds, places or addresses fails.
 pub fn never_stuck()

@@ -8,7 +8,8 @@ use Rattle.csl_tree.specs.declared.program.BinaryOp.TheVariants.{Add, Sub, Mul, 
 use Rattle.csl_tree.specs.declared.program.Stmt.{Stmt}
 use Rattle.csl_tree.specs.declared.program.Form.TheVariants as form
 use Rattle.csl_meaning.specs.Rows.{number, minus, id, Writes}
-use Rattle.meaning_rows.specs.Trees.{array, truth, two, paren, at_name, at_item, var, item_of, call, s, declare, set, add_to, give, leave, when, while, count_by, count_to, say, print, step, function, program}
+use Rattle.meaning_rows.specs.Trees.{array, truth, two, paren, at_name, at_item, var, item_of, call, s, declare, set, add_to, give, leave}
+use Rattle.meaning_rows.specs.Trees.{when, while, count_by, count_to, say, print, step, function, program}
 use Rattle.meaning_rows.specs.Charges.{Spent}
 
 -- i
@@ -95,7 +96,8 @@ abbrev pub continue_in_while : Program
 continue_in_while = program [] []
     (declare (codes "total") (number 0)
     ∷ declare (codes "i") (number 0)
-    ∷ while (two i Lt (number 4)) (add_to (at_name (codes "i")) (number 1) ∷ when (two i Eq (number 2)) (s form.Continue ∷ []) ∷ add_total i ∷ [])
+    ∷ while (two i Lt (number 4)) (add_to (at_name (codes "i")) (number 1) ∷ when (two i Eq (number 2)) (s form.Continue ∷ []) ∷ add_total i
+    ∷ [])
     ∷ print_total
     ∷ [])
 
@@ -168,7 +170,8 @@ return_in_routine = program (array (codes "a") 2 ∷ []) []
     (set (at_item (codes "a") id) (number 7)
     ∷ declare (codes "k") (number 0)
     ∷ while (truth true)
-    (while (truth true) (when (two k Eq id) (leave ∷ []) ∷ add_to (at_name (codes "k")) (number 1) ∷ set (at_item (codes "a") id) k ∷ []) ∷ [])
+    (while (truth true) (when (two k Eq id) (leave ∷ []) ∷ add_to (at_name (codes "k")) (number 1) ∷ set (at_item (codes "a") id) k ∷ [])
+    ∷ [])
     ∷ [])
     ∷ print (item_of (codes "a") (number 0) ∷ item_of (codes "a") (number 1) ∷ [])
     ∷ [])

@@ -85,7 +85,8 @@ AtLeast = Values (on_numbers Ge) (codes "false true true")
 -- `print(-1 < 0, -2 < -1, -1 < -2);`: numbers below 0 have their order
 abbrev pub BelowZero : Type 0
 BelowZero = Values
-    (two (minus (number 1)) Lt (number 0) ∷ two (minus (number 2)) Lt (minus (number 1)) ∷ two (minus (number 1)) Lt (minus (number 2)) ∷ [])
+    (two (minus (number 1)) Lt (number 0) ∷ two (minus (number 2)) Lt (minus (number 1)) ∷ two (minus (number 1)) Lt (minus (number 2))
+    ∷ [])
     (codes "true true false")
 
 -- a quotient is cut towards zero, whatever the signs
@@ -99,7 +100,8 @@ Remainders = Values (with_signs 7 Rem 2) (codes "1 -1 1 -1")
 -- `print(5 - 3 - 1, 8 / 4 / 2, 7 % 4 % 2);`, as trees that group to the left
 abbrev pub GroupedToTheLeft : Type 0
 GroupedToTheLeft = Values
-    (two (two (number 5) Sub (number 3)) Sub (number 1) ∷ two (two (number 8) Div (number 4)) Div (number 2) ∷ two (two (number 7) Rem (number 4)) Rem (number 2) ∷ [])
+    (two (two (number 5) Sub (number 3)) Sub (number 1) ∷ two (two (number 8) Div (number 4)) Div (number 2) ∷ two
+    (two (number 7) Rem (number 4)) Rem (number 2) ∷ [])
     (codes "1 1 1")
 
 -- a quotient or remainder by zero traps, also that of 0

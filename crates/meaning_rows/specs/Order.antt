@@ -12,7 +12,8 @@ use Rattle.csl_tree.specs.declared.program.Stmt.{Stmt}
 use Rattle.csl_tree.specs.declared.program.Form.TheVariants as form
 use Rattle.csl_tree.specs.declared.program.Arm.{roll-Arm}
 use Rattle.csl_meaning.specs.Rows.{number, minus, of_widths, Writes}
-use Rattle.meaning_rows.specs.Trees.{named, scalar, array, truth, two, too_large, by_zero, at_name, at_item, var, item_of, call, s, set, add_to, give, say, print, function, program, Prints, Faults}
+use Rattle.meaning_rows.specs.Trees.{named, scalar, array, truth, two, too_large, by_zero, at_name, at_item, var, item_of, call, s, set}
+use Rattle.meaning_rows.specs.Trees.{add_to, give, say, print, function, program, Prints, Faults}
 
 -- main traps before any step, with these words
 abbrev pub Traps : Program → List ℕ → Type 0
@@ -32,7 +33,8 @@ ValueBeforeTest change = Traps (on_array (change (at_item (codes "a") (number 9)
 
 -- an index that is read from an array is tested as it is read: `a[a[9]] = 1 / 0;`, or by `+=`
 abbrev pub InnerIndexIsTested : (Place → Expr → Stmt) → Type 0
-InnerIndexIsTested change = Traps (on_array (change (at_item (codes "a") (item_of (codes "a") (number 9))) by_zero)) (codes "index out of range")
+InnerIndexIsTested change = Traps (on_array (change (at_item (codes "a") (item_of (codes "a") (number 9))) by_zero))
+    (codes "index out of range")
 
 -- int f(int n) { x = 1; return n; }
 abbrev setting : Function
@@ -71,7 +73,8 @@ ItemIsReadLast = Prints item_is_read_last (codes "6")
 abbrev pub printing : List Expr → Program
 printing values = program (scalar (codes "x") ∷ [])
     (setting
-    ∷ function gives.Int (codes "pair") (codes "a" ∷ codes "b" ∷ []) (give (two (two (var (codes "a")) Mul (number 10)) Add (var (codes "b"))) ∷ [])
+    ∷ function gives.Int (codes "pair") (codes "a" ∷ codes "b" ∷ [])
+    (give (two (two (var (codes "a")) Mul (number 10)) Add (var (codes "b"))) ∷ [])
     ∷ [])
     (print values ∷ [])
 
@@ -129,7 +132,8 @@ RightOfAnd = Traps (printing (two (truth true) And trapping ∷ [])) (codes "div
 -- shared { } main { if (true) { print("first"); } else if (1 / 0 > 0) { } }
 abbrev pub two_arms : Program
 two_arms = program [] []
-    (s (form.If (roll-Arm (record { test = truth true; body = say (codes "first") ∷ [] }) ∷ roll-Arm (record { test = trapping; body = [] }) ∷ []) None) ∷ [])
+    (s (form.If (roll-Arm (record { test = truth true; body = say (codes "first") ∷ [] }) ∷ roll-Arm (record { test = trapping; body = [] })
+    ∷ []) None) ∷ [])
 
 -- the test of a later arm is skipped where an earlier arm is taken
 abbrev pub LaterArmSkipped : Type 0

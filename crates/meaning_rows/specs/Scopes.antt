@@ -8,7 +8,8 @@ use Rattle.csl_tree.specs.declared.program.Expr.{Expr}
 use Rattle.csl_tree.specs.declared.program.BinaryOp.TheVariants.{Add, Sub, Eq, Lt, Gt}
 use Rattle.csl_tree.specs.declared.program.Form.TheVariants as form
 use Rattle.csl_meaning.specs.Rows.{number, Writes}
-use Rattle.meaning_rows.specs.Trees.{named, greatest, two, at_name, var, call, s, declare, set, add_to, give, when, count_to, print, function, program, Prints, Faults}
+use Rattle.meaning_rows.specs.Trees.{named, greatest, two, at_name, var, call, s, declare, set, add_to, give, when, count_to, print}
+use Rattle.meaning_rows.specs.Trees.{function, program, Prints, Faults}
 
 -- x
 abbrev x : Expr

@@ -9,7 +9,8 @@ use Rattle.csl_tree.specs.declared.program.BinaryOp.TheVariants.{Add, Sub, Mul, 
 use Rattle.csl_tree.specs.declared.program.Stmt.{Stmt}
 use Rattle.csl_tree.specs.declared.program.Form.TheVariants as form
 use Rattle.csl_meaning.specs.Rows.{number, minus, id, Writes}
-use Rattle.meaning_rows.specs.Trees.{scalar, tally, array, array_of, two, paren, greatest, least, at_name, at_item, var, item_of, call, s, set, add_to, run, give, print, step, function, program, Prints, Faults}
+use Rattle.meaning_rows.specs.Trees.{scalar, tally, array, array_of, two, paren, greatest, least, at_name, at_item, var, item_of, call, s}
+use Rattle.meaning_rows.specs.Trees.{set, add_to, run, give, print, step, function, program, Prints, Faults}
 
 -- t
 abbrev t : Expr
@@ -153,7 +154,8 @@ abbrev pub own_and_others : Program
 own_and_others = program (array_of (codes "a") 3 (pos 7 ∷ pos 8 ∷ pos 9 ∷ []) ∷ array (codes "b") 3 ∷ []) []
     (step 3
     (set (at_item (codes "a") id) (two id Add (number 1))
-    ∷ set (at_item (codes "b") id) (two (two (item_of (codes "a") id) Mul (number 10)) Add (item_of (codes "a") (two (paren (two id Add (number 1))) Rem (number 3))))
+    ∷ set (at_item (codes "b") id) (two (two (item_of (codes "a") id) Mul (number 10)) Add
+    (item_of (codes "a") (two (paren (two id Add (number 1))) Rem (number 3))))
     ∷ [])
     ∷ print (item_of (codes "b") (number 0) ∷ item_of (codes "b") (number 1) ∷ item_of (codes "b") (number 2) ∷ [])
     ∷ [])
@@ -180,7 +182,8 @@ LastWriteCounts = Prints last_write (codes "5")
 
 -- shared { int x; } main { parbegin routine[1](int w, int id) { x = (-9223372036854775807 - 1) OP -1; } parend; }
 abbrev pub least_in_routine : BinaryOp → Program
-least_in_routine op = program (scalar (codes "x") ∷ []) [] (step 1 (set (at_name (codes "x")) (two (paren least) op (minus (number 1))) ∷ []) ∷ [])
+least_in_routine op = program (scalar (codes "x") ∷ []) [] (step 1
+    (set (at_name (codes "x")) (two (paren least) op (minus (number 1))) ∷ []) ∷ [])
 
 -- the least number by -1 overflows in a routine too
 abbrev pub OverflowInRoutine : BinaryOp → Type 0

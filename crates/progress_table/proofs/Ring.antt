@@ -237,7 +237,8 @@ module _ (n : ℕ) (wanted : ℕ → Bool) (claims next prev : List ℕ) (cursor
     moved_on : cursor ≡ k → after < n → IsCursor n less claims after
     moved_on is l =
         let wanted_after : wanted after ≡ true = ⊎_elim (λ (e : after ≡ n). absurd (omega arith)) (λ (w : wanted after ≡ true). w) after_seat in
-        let at_after : get_or claims after 0 ≡ get_or claims cursor 0 = at.turn after wanted_after ∙ (ap (λ b. get_or claims cursor 0 + cond b 1 0) (le-ltb after cursor (omega (arith, above))) ∙ omega arith) in
+        let at_after : get_or claims after 0 ≡ get_or claims cursor 0 = at.turn after wanted_after
+        ∙ (ap (λ b. get_or claims cursor 0 + cond b 1 0) (le-ltb after cursor (omega (arith, above))) ∙ omega arith) in
         record {
           seat = seat_still after after_seat (λ e. omega (arith, above));
           none = λ e. absurd (omega arith);

@@ -1,5 +1,6 @@
 -- Each call keeps what a table holds.
-use Rattle.std.proofs.Common.{◌≡◌, ℕ, zero, suc, ◌+◌, ◌<◌, ◌≤◌, Bool, true, false, not, ◌&&◌, cond, ltb, min, List, [], ◌∷◌, Option, Some, None, MatchOption, length, set, get_or, replicate, inl, inr, ◌⊎◌, refl, sym, ap, ◌∙◌, subst, ⊎_elim, arith}
+use Rattle.std.proofs.Common.{◌≡◌, ℕ, zero, suc, ◌+◌, ◌<◌, ◌≤◌, Bool, true, false, not, ◌&&◌, cond, ltb, min, List, [], ◌∷◌, Option, Some, None, MatchOption, length, set, get_or, replicate, inl, inr}
+use Rattle.std.proofs.Common.{◌⊎◌, refl, sym, ap, ◌∙◌, subst, ⊎_elim, arith}
 use Rattle.std.proofs.lemmas.Bool.{cases_lt, cases_eq, lt-ltb, le-ltb, ltb-true, and_parts, and_right, not-true}
 use Rattle.std.proofs.lemmas.List.{length-set, length-replicate, get_or-set_same, get_or-set_other}
 use Rattle.cal_base.specs.Numbers.{lightest_below, IsLightest}
@@ -14,7 +15,8 @@ wanted_parts : (table : Progress) (j : ℕ) → is_wanted_in table j ≡ true �
 wanted_parts table j w = let parts = and_parts (not (get_or table.done j false)) (ltb j table.bound) w in (not-true _ parts.0, ltb-true _ _ parts.1)
 
 -- a table with other tests for what is wanted, which come to the same
-wanted_same : (n : ℕ) (p q : ℕ → Bool) (claims next prev : List ℕ) (cursor : ℕ) → ((j : ℕ) → q j ≡ p j) → IsRing n p next prev → IsCursor n p claims cursor → IsRing n q next prev × IsCursor n q claims cursor
+wanted_same : (n : ℕ) (p q : ℕ → Bool) (claims next prev : List ℕ) (cursor : ℕ) → ((j : ℕ) → q j ≡ p j) → IsRing n p next prev → IsCursor n p claims cursor
+    → IsRing n q next prev × IsCursor n q claims cursor
 wanted_same n p q claims next prev cursor same ring at =
     let path : p ≡ q = λ i j. sym (same j) i in
     (subst (λ w. IsRing n w next prev) path ring, subst (λ w. IsCursor n w claims cursor) path at)
@@ -31,7 +33,8 @@ claim_table table next prev cursor k is at here =
       limit = omega (arith, size, is.limit);
       bound = omega (arith, size, is.bound);
       ring = subst (λ n. IsRing n (is_wanted_in table) next prev) (sym size) is.ring;
-      stands = subst (λ n. IsCursor n (is_wanted_in table) (set table.claims k (get_or table.claims k 0 + 1)) (turned_to (length table.claims) (get_or next k 0) (get_or next (length table.claims) 0))) (sym size) turned;
+      stands = subst (λ n. IsCursor n (is_wanted_in table) (set table.claims k (get_or table.claims k 0 + 1)) (turned_to (length table.claims) (get_or next k 0) (get_or next (length table.claims) 0)))
+          (sym size) turned;
     }
 
 -- ---- a wanted number that is done
@@ -42,7 +45,8 @@ pub done_table : (table : Progress) (next prev : List ℕ) (cursor k : ℕ) → 
 done_table table next prev cursor k is here =
     let within : k < length table.claims = is.ring.below k here in
     let off : is_wanted_in (with_done table k) k ≡ false = ap (λ b. not b && ltb k table.bound) (get_or-set_same table.done k true false (omega (arith, within, is.flags))) in
-    let others : (j : ℕ) → (j ≡ k → ⊥) → is_wanted_in (with_done table k) j ≡ is_wanted_in table j = λ j apart. ap (λ b. not b && ltb j table.bound) (get_or-set_other table.done k j true false apart) in
+    let others : (j : ℕ) → (j ≡ k → ⊥) → is_wanted_in (with_done table k) j ≡ is_wanted_in table j = λ j apart. ap (λ b. not b && ltb j table.bound)
+    (get_or-set_other table.done k j true false apart) in
     record {
       flags = is.flags ∙ sym (length-set table.done k true);
       limit = is.limit;
@@ -53,7 +57,8 @@ done_table table next prev cursor k is here =
 
 -- ---- a number that is not wanted, and is done
 
-pub mark_table : (table : Progress) (next prev : List ℕ) (cursor k : ℕ) → IsTable table next prev cursor → is_wanted_in table k ≡ false → k < length table.claims → IsTable (with_done table k) next prev cursor
+pub mark_table : (table : Progress) (next prev : List ℕ) (cursor k : ℕ) → IsTable table next prev cursor → is_wanted_in table k ≡ false → k < length table.claims
+    → IsTable (with_done table k) next prev cursor
 mark_table table next prev cursor k is off within =
     let same : (j : ℕ) → is_wanted_in (with_done table k) j ≡ is_wanted_in table j =
     λ j.
@@ -301,9 +306,11 @@ module _ (table seen : Progress) (next prev : List ℕ) (cursor : ℕ) (same : t
     least_within = lightest_within (length table.claims) (is_wanted_in table) (λ j. get_or table.claims j 0) k least_here
 
     least_is_wanted : is_wanted_in table k ≡ true
-    least_is_wanted = by (lightest_below (length table.claims) (is_wanted_in table) (λ j. get_or table.claims j 0)) least_here (lightest_below-is (length table.claims) (is_wanted_in table) (λ j. get_or table.claims j 0))
+    least_is_wanted = by (lightest_below (length table.claims) (is_wanted_in table) (λ j. get_or table.claims j 0)) least_here
+        (lightest_below-is (length table.claims) (is_wanted_in table) (λ j. get_or table.claims j 0))
       where
-        by : (o : Option ℕ) → o ≡ Some k → MatchOption o ((j : ℕ) → j < length table.claims → is_wanted_in table j ≡ false) (IsLightest (length table.claims) (is_wanted_in table) (λ j. get_or table.claims j 0)) → is_wanted_in table k ≡ true
+        by : (o : Option ℕ) → o ≡ Some k → MatchOption o ((j : ℕ) → j < length table.claims → is_wanted_in table j ≡ false)
+            (IsLightest (length table.claims) (is_wanted_in table) (λ j. get_or table.claims j 0)) → is_wanted_in table k ≡ true
         by None e none = absurd (cc)
         by (Some j) e light = let at : j ≡ k = cc in ap (λ i. is_wanted_in table i) (sym at) ∙ light.passes
 

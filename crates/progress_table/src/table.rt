@@ -1,8 +1,10 @@
 //! The table of a step's progress, with the wanted numbers in a ring.
 
-ghost use Rattle.std.specs.Prelude.{◌≡◌, ◌+◌, ◌<◌, ◌≤◌, ◌-◌, ◌^◌, ℕ, false, Some, IfOk, IsTrue, IsFalse, MatchOption, length, replicate, slice_index};
+ghost use Rattle.std.specs.Prelude.{◌≡◌, ◌+◌, ◌<◌, ◌≤◌, ◌-◌, ◌^◌, ℕ, false, Some, IfOk, IsTrue, IsFalse, MatchOption, length, replicate};
+ghost use Rattle.std.specs.Prelude.{slice_index};
 ghost use Rattle.std.specs.List.{sum};
-ghost use Rattle.progress_table.specs.Progress.{Progress, NothingIsWanted, IsLeastWanted, claims_in, is_done_in, is_wanted_in, least_wanted_in, with_claim, with_done, cut_at};
+ghost use Rattle.progress_table.specs.Progress.{Progress, NothingIsWanted, IsLeastWanted, claims_in, is_done_in, is_wanted_in};
+ghost use Rattle.progress_table.specs.Progress.{least_wanted_in, with_claim, with_done, cut_at};
 ghost use Rattle.progress_table.specs.Ring.{IsLast, turned_to, cursor_without};
 
 use cal_base::NoMemory;
@@ -31,7 +33,8 @@ impl Model for ProgressTable {
 
     ghost view = { λ t. record { claims = t.claims.items; done = t.done.items; bound = t.bound } };
 
-    ghost invariant = { λ t. IsTable (record { claims = t.claims.items; done = t.done.items; bound = t.bound }) t.next.items t.prev.items t.cursor };
+    ghost invariant = { λ t. IsTable (record { claims = t.claims.items; done = t.done.items; bound = t.bound }) t.next.items t.prev.items
+        t.cursor };
 }
 
 /// The seat behind a number, and behind the last the first.
@@ -213,7 +216,8 @@ impl ProgressTable {
 
     /// The last wanted routine, where it is k or above it.
     fn last_from(&self, k: u32) -> Option<u32>
-        ensures { MatchOption result ((j : ℕ) → IsTrue (is_wanted_in self.now j) → j < k) (λ last. (k ≤ last) × IsTrue (is_wanted_in self.now last) × IsLast self.now last) }
+        ensures { MatchOption result ((j : ℕ) → IsTrue (is_wanted_in self.now j) → j < k)
+            (λ last. (k ≤ last) × IsTrue (is_wanted_in self.now last) × IsLast self.now last) }
     {
         let last = self.last();
         if last < k {

@@ -40,7 +40,8 @@ module _ (m : Module) (fuel number : ℕ) (opening : Memory) (first : ℕ) (widt
       (block_at place.block (slice_get_within widths place.block place.width is.block)) is.block is.within
 
 -- a number of the job is a number of its widths
-pub number_there : (job : StepJob) (m : Module) (fuel number : ℕ) (opening : Memory) (first : ℕ) (widths : List ℕ) (k : ℕ) → job ≡ step_job m fuel number opening first widths → first + length widths ≤ length m.blocks
+pub number_there : (job : StepJob) (m : Module) (fuel number : ℕ) (opening : Memory) (first : ℕ) (widths : List ℕ) (k : ℕ) → job ≡ step_job m fuel number opening first widths
+    → first + length widths ≤ length m.blocks
     → k < size_of job → k < sum widths
 number_there job m fuel number opening first widths k named there lt = omega (arith, lt, ap size_of named, size_is m fuel number opening first widths there)
 

@@ -38,7 +38,8 @@ split_found [] vs h = refl
 split_found (k ∷ ks) [] h = absurd cc
 split_found (k ∷ ks) (v ∷ vs) h = told (same_kind k (kind_of v)) (λ there. split_found ks vs there) h
   where
-    told : (b : Bool) → (IsSome (split ks vs) → split ks vs ≡ Some (take (length ks) vs, drop (length ks) vs)) → IsSome (cond b (with_first v (split ks vs)) None) → cond b (with_first v (split ks vs)) None ≡ Some (v ∷ take (length ks) vs, drop (length ks) vs)
+    told : (b : Bool) → (IsSome (split ks vs) → split ks vs ≡ Some (take (length ks) vs, drop (length ks) vs)) → IsSome (cond b (with_first v (split ks vs)) None)
+        → cond b (with_first v (split ks vs)) None ≡ Some (v ∷ take (length ks) vs, drop (length ks) vs)
     told true more h = ap (with_first v) (more (bind_there (split ks vs) _ h))
     told false more h = absurd cc
 
@@ -64,7 +65,9 @@ module _ (m : Module) (n : ℕ) (f : Code) (found : slice_get m.functions n ≡ 
     more_of fuel = on_with (state_of m (run_of fuel) store) (drop f.params call.operands)
 
     entered : (fuel left : ℕ) (to : Led) (later : Run) (b : Bool) → Enters n f (run_of fuel) to later left b
-        → Steps (i.Call n) (Some (cond b (Traps TooDeep store left) (On (record (more_of fuel) { call = begun f (reverse (take f.params call.operands)); callers = (more_of fuel).call ∷ map (call_of m) waiting; fuel = left })))) (state_of m (run_of fuel) store) to (state_of m later store)
+        → Steps (i.Call n) (Some (cond b (Traps TooDeep store left) (On (record (more_of fuel)
+        { call = begun f (reverse (take f.params call.operands)); callers = (more_of fuel).call ∷ map (call_of m) waiting; fuel = left })))) (state_of m (run_of fuel) store) to
+        (state_of m later store)
     entered fuel left to later true h = rw (h.0, h.1) refl
     entered fuel left to later false h = rw (h.0, h.1, code_is) refl
 

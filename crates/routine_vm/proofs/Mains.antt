@@ -161,14 +161,17 @@ module _ (m : Module) (ok : IsVerified m) where
 
     good_next : (n : Next) → next m (main_state m h (module_memory m)) ≡ Some n → Good false (Follows m false (function_runs m ok false) (main_state m h (module_memory m))) (Some n)
     good_next n e =
-        subst (λ (o : Option Next). Good false (Follows m false (function_runs m ok false) (main_state m h (module_memory m))) o) e (next_good m ok false (main_state m h (module_memory m)) (fits_at (module_memory m)))
+        subst (λ (o : Option Next). Good false (Follows m false (function_runs m ok false) (main_state m h (module_memory m))) o) e
+        (next_good m ok false (main_state m h (module_memory m)) (fits_at (module_memory m)))
 
     -- main may go on behind a line
-    pub behind_line : (line : List ℕ) (later : Held) → later.call.body ≡ body.Main → next m (main_state m h (module_memory m)) ≡ Some (Prints line (main_state m later (module_memory m))) → MayGoOn m later
+    pub behind_line : (line : List ℕ) (later : Held) → later.call.body ≡ body.Main → next m (main_state m h (module_memory m)) ≡ Some (Prints line (main_state m later (module_memory m)))
+        → MayGoOn m later
     behind_line line later main e = record { main = main; fits = (good_next (Prints line (main_state m later (module_memory m))) e).1.0 }
 
     -- main may go on behind a step
-    pub behind_step : (first : ℕ) (widths : List ℕ) (later : Held) → later.call.body ≡ body.Main → next m (main_state m h (module_memory m)) ≡ Some (Opens first widths (main_state m later (module_memory m))) → MayGoOn m later
+    pub behind_step : (first : ℕ) (widths : List ℕ) (later : Held) → later.call.body ≡ body.Main
+        → next m (main_state m h (module_memory m)) ≡ Some (Opens first widths (main_state m later (module_memory m))) → MayGoOn m later
     behind_step first widths later main e = record { main = main; fits = (good_next (Opens first widths (main_state m later (module_memory m))) e).1.0 }
 
     -- a step that is opened tells its blocks and its routines

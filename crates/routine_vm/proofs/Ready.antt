@@ -116,7 +116,8 @@ module _ (m : Module) (ok : IsVerified m) where
     pub next_there : (x : Instr) → slice_get (call_of m r.call).code.instrs r.call.place ≡ Some x → IsSome (step m x (state_of m r store))
     next_there x e =
         subst (λ (o : Option Instr). IsSome (o >>= (λ instr. step m instr (state_of m r store)))) e
-        (good_some (in_routine store) (Follows m (in_routine store) (function_runs m ok (in_routine store)) (state_of m r store)) (next m (state_of m r store)) (next_good m ok (in_routine store) (state_of m r store) ready.fits))
+        (good_some (in_routine store) (Follows m (in_routine store) (function_runs m ok (in_routine store)) (state_of m r store)) (next m (state_of m r store))
+        (next_good m ok (in_routine store) (state_of m r store) ready.fits))
 
     -- what good steps lead to: where they lead on, the state fits and fewer steps are ahead
     abbrev pub GoodStep : Type 0

@@ -139,7 +139,8 @@ too_many (Some ns) h = ap (λ (b : Bool). cond b (Some ns) None) (lt-leb (sum ns
 -- a number that is no width makes no step
 pub bad_widths : (front : List ℤ) (z : ℤ) (ws : List ℕ) → WidthBeside (sum ws) z None → step_widths (front ++ z ∷ map pos ws) ≡ None
 bad_widths front (negsuc n) ws h = ap unless_too_many (natural_none front (negsuc n ∷ map pos ws) refl)
-bad_widths front (pos n) ws h = too_many (naturals (front ++ pos n ∷ map pos ws)) (at_least front (pos n ∷ map pos ws) 65537 (rw (natural_all ws) (let more = sum_by-cons (λ x. x) n ws in omega (arith, h, more))))
+bad_widths front (pos n) ws h = too_many (naturals (front ++ pos n ∷ map pos ws)) (at_least front (pos n ∷ map pos ws) 65537
+    (rw (natural_all ws) (let more = sum_by-cons (λ x. x) n ws in omega (arith, h, more))))
 
 -- widths of a step make few routines
 pub few_routines : (ws : List ℕ) → step_widths (map pos ws) ≡ Some ws → sum ws ≤ 65536

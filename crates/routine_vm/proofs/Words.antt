@@ -43,8 +43,10 @@ words_long m store e = sym (length-map (memory_in store) (λ w. w.kind)) ∙ ap 
 first_kind_at : (m : Module) (a : ℕ) → a < m.words → slice_get (kinds_of (module_memory m)) a ≡ Some (first_kind m.tallies a)
 first_kind_at m a lt =
     slice_get-map (λ w. w.kind) (module_memory m) a
-    ∙ ap (λ (o : Option Word). option_map (λ w. w.kind) o) (slice_get-map (λ address. record { kind = first_kind m.tallies address; value = first_value m.initial address }) (range_with_len 0 m.words) a)
-    ∙ ap (λ (o : Option ℕ). option_map (λ (w : Word). w.kind) (option_map (λ address. record { kind = first_kind m.tallies address; value = first_value m.initial address }) o)) (range_at 0 m.words a lt ∙ ap (λ (x : ℕ). Some x) (zero-add a))
+    ∙ ap (λ (o : Option Word). option_map (λ w. w.kind) o) (slice_get-map (λ address. record { kind = first_kind m.tallies address; value = first_value m.initial address }) (range_with_len 0 m.words)
+    a)
+    ∙ ap (λ (o : Option ℕ). option_map (λ (w : Word). w.kind) (option_map (λ address. record { kind = first_kind m.tallies address; value = first_value m.initial address }) o))
+    (range_at 0 m.words a lt ∙ ap (λ (x : ℕ). Some x) (zero-add a))
 
 ordinary_at : (m : Module) (a : ℕ) → a < m.words → is_tally m a ≡ false → is_ordinary (kinds_of (module_memory m)) a ≡ true
 ordinary_at m a lt plain =

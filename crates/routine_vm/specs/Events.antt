@@ -40,4 +40,5 @@ WidthBeside total z (Some width) = (z ≡ pos width) × (total + width ≤ MOST_
 -- the numbers on top are the widths of a step with so many routines, or they are none
 abbrev pub TakesWidths : ℕ → List Val → Option ℕ → List Val → List ℕ → Type 0
 TakesWidths count before None later widths = (x : List ℤ × List Val) × (many_numbers count before ≡ Some x) × (step_widths x.0 ≡ None)
-TakesWidths count before (Some total) later widths = (many_numbers count before ≡ Some (map pos widths, later)) × (step_widths (map pos widths) ≡ Some widths) × (total ≡ sum widths)
+TakesWidths count before (Some total) later widths = (many_numbers count before ≡ Some (map pos widths, later))
+    × (step_widths (map pos widths) ≡ Some widths) × (total ≡ sum widths)

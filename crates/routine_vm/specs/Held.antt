@@ -79,7 +79,8 @@ OpensBlocks first count before (Print items) later = ⊥
 OpensBlocks first count before Halt later = ⊥
 OpensBlocks first count before (Par block blocks total) later =
     (block ≡ first) × (blocks ≡ count) × (blocks ≡ length later.widths) × (total ≡ sum later.widths)
-    × (many_numbers count before.call.operands ≡ Some (map pos later.widths, later.call.operands)) × (step_widths (map pos later.widths) ≡ Some later.widths)
+    × (many_numbers count before.call.operands ≡ Some (map pos later.widths, later.call.operands))
+    × (step_widths (map pos later.widths) ≡ Some later.widths)
     × (before.fuel ≡ suc later.fuel) × (later.call ≡ behind before.call later.call.operands)
 OpensBlocks first count before (Fault cause) later =
     (later.fuel ≡ before.fuel) × (x : List ℤ × List Val) × (many_numbers count before.call.operands ≡ Some x)

@@ -23,7 +23,8 @@ HasBody m (body.Function f) = f < length m.functions
 -- the bodies of the calls, the running one first: functions above the one at the bottom
 abbrev pub Stacked : Module → Body → Body → List Body → Type 0
 Stacked m bottom running [] = running ≡ bottom
-Stacked m bottom running (caller ∷ waiting) = ((f : ℕ) × (running ≡ body.Function f) × (f < length m.functions)) × Stacked m bottom caller waiting
+Stacked m bottom running (caller ∷ waiting) = ((f : ℕ) × (running ≡ body.Function f) × (f < length m.functions))
+    × Stacked m bottom caller waiting
 
 -- the bodies of frames
 abbrev pub bodies_of : List Frame → List Body

@@ -1,6 +1,7 @@
 -- What a step of the machine does, and where it stops.
 -- For the proof of the body: no public clause cites this.
-use Rattle.std.specs.Prelude.{◌≡◌, ℕ, zero, suc, ◌≤◌, ◌==◌, Bool, true, false, [], ◌∷◌, ◌++◌, ℤ, Option, Some, None, IsSome, Result, Ok, Err, List, length, slice_get, reverse, take, drop}
+use Rattle.std.specs.Prelude.{◌≡◌, ℕ, zero, suc, ◌≤◌, ◌==◌, Bool, true, false, [], ◌∷◌, ◌++◌, ℤ, Option, Some, None, IsSome, Result, Ok}
+use Rattle.std.specs.Prelude.{Err, List, length, slice_get, reverse, take, drop}
 use Rattle.std.specs.List.{AllByRecursion}
 use Rattle.cal_base.specs.declared.ends.Cause.{Cause}
 use Rattle.cal_base.specs.declared.ends.Cause.TheVariants.{TooDeep, FuelSpent}
@@ -40,7 +41,8 @@ HasStep instr r = (m : Module) × ((store : Store) × IsSome (step m instr (stat
 
 -- the instruction leads so in each module and with any words, which it leaves as they are
 abbrev pub StepsAnywhere : Instr → Run → Led → Run → Type 0
-StepsAnywhere instr before to later = (m : Module) (store : Store) → Steps instr (step m instr (state_of m before store)) (state_of m before store) to (state_of m later store)
+StepsAnywhere instr before to later = (m : Module) (store : Store)
+    → Steps instr (step m instr (state_of m before store)) (state_of m before store) to (state_of m later store)
 
 -- the same bodies run and wait
 pub record HasBodiesOf (before later : Run) : Type 0 where
@@ -113,7 +115,8 @@ HaveShape functions = (f : ℕ) (c : Code) → slice_get functions f ≡ Some c 
 
 -- goes on behind the instruction with the store that it leaves, or traps
 abbrev pub Leaves : Store → Run → Result Store Cause → Led → Store → Run → Type 0
-Leaves store before (Ok left) to words later = (to ≡ led.On) × (words ≡ left) × (later ≡ record before { call = behind before.call before.call.operands })
+Leaves store before (Ok left) to words later = (to ≡ led.On) × (words ≡ left)
+    × (later ≡ record before { call = behind before.call before.call.operands })
 Leaves store before (Err cause) to words later = (to ≡ led.Traps cause) × (words ≡ store) × (later ≡ before)
 
 -- a function's call runs with this fuel, and the one that called it waits behind its instruction, unless that is too deep
@@ -135,7 +138,8 @@ Calls f c before to later = CallsWith f c before to later before.fuel
 -- the last of these calls goes on with what is given back on top, or the run ends
 abbrev pub Leads : List Val → Run → Led → Run → List Frame → Type 0
 Leads given before to later [] = (to ≡ led.Ends) × (later.fuel ≡ before.fuel)
-Leads given before to later (c ∷ waiting) = (to ≡ led.On) × (later ≡ record { call = record c { operands = given ++ c.operands }; waiting = waiting; fuel = before.fuel })
+Leads given before to later (c ∷ waiting) = (to ≡ led.On) × (later ≡ record
+    { call = record c { operands = given ++ c.operands }; waiting = waiting; fuel = before.fuel })
 
 -- the call that runs gives this back
 abbrev pub GivesBack : Option (List Val) → Run → Led → Run → Type 0

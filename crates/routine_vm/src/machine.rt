@@ -100,7 +100,8 @@ impl Machine {
         requires none { self.old.items ≡ [] }
         requires place { self.old.call.place + 1 < 2 ^ 32 }
         ensures event { result ≡ MainEvent.Print (length self.new.items) }
-        ensures pieces { machine.pieces m.now line.now self.old.call.operands ≡ Some (map (piece_of m.now) self.new.items, self.new.call.operands) }
+        ensures pieces { machine.pieces m.now line.now self.old.call.operands ≡ Some
+            (map (piece_of m.now) self.new.items, self.new.call.operands) }
         ensures named { AreItemsOf line.now self.new.items }
         ensures call { self.new.call ≡ behind self.old.call self.new.call.operands }
         ensures fuel { self.new.fuel ≡ self.old.fuel }
@@ -143,7 +144,8 @@ impl Machine {
         requires at { IsAtEvent (main_state m.now self.old (module_memory m.now)) }
         requires items { self.old.items ≡ [] }
         requires widths { self.old.widths ≡ [] }
-        ensures next { (memory : Memory) → machine.next m.now (main_state m.now self.old memory) ≡ Some (event_at m.now result self.new memory) }
+        ensures next { (memory : Memory) → machine.next m.now (main_state m.now self.old memory) ≡ Some
+            (event_at m.now result self.new memory) }
         ensures told { IsTold m.now result self.new }
     {
         match m.main.instrs.get(self.run.call.place as usize) {
@@ -158,8 +160,11 @@ impl Machine {
     pub fn run_main(&mut self, code: &Verified, image: &mut Image) -> MainEvent
         requires may { MayGoOn code.now self.old }
         requires kinds { kinds_of image.old.memory ≡ kinds_of (module_memory code.now) }
-        ensures event { outcome_from code.now (main_state code.now self.old image.old.memory) ≡ Comes (event_at code.now result self.new image.new.memory) }
-        ensures meaning { (whole steps : ℕ) → main_of code.now whole steps (main_state code.now self.old image.old.memory) ≡ main_at code.now whole steps (λ more later. main_of code.now whole more later) (Some (event_at code.now result self.new image.new.memory)) }
+        ensures event { outcome_from code.now (main_state code.now self.old image.old.memory) ≡ Comes
+            (event_at code.now result self.new image.new.memory) }
+        ensures meaning { (whole steps : ℕ) → main_of code.now whole steps (main_state code.now self.old image.old.memory) ≡ main_at
+            code.now whole steps (λ more later. main_of code.now whole more later)
+            (Some (event_at code.now result self.new image.new.memory)) }
         ensures told { IsTold code.now result self.new }
         ensures later { IsLater image.old image.new }
     {
@@ -194,7 +199,8 @@ impl Machine {
         requires id { id < width }
         requires kinds { kinds_of (M.opening mem.old) ≡ kinds_of (module_memory code.now) }
         requires written { M.written mem.old ≡ empty }
-        ensures outcome { IsOutcome (routine_outcome code.now (slice_index_or code.now.blocks block code.now.main) width id (M.opening mem.old) fuel) result (M.written mem.new) }
+        ensures outcome { IsOutcome (routine_outcome code.now (slice_index_or code.now.blocks block code.now.main) width id
+            (M.opening mem.old) fuel) result (M.written mem.new) }
         ensures opening { M.opening mem.new ≡ M.opening mem.old }
         ensures keeps { M.keeps mem.old mem.new }
         ensures main { self.new ≡ self.old }

@@ -1,6 +1,7 @@
 //! The small steps.
 
-ghost use Rattle.std.specs.Prelude.{◌≡◌, ◌≢◌, ◌≤◌, ◌<◌, ◌+◌, ◌^◌, ◌∷◌, [], ◌↔◌, IsTrue, IsSome, Some, length, take, reverse, slice_get, map};
+ghost use Rattle.std.specs.Prelude.{◌≡◌, ◌≢◌, ◌≤◌, ◌<◌, ◌+◌, ◌^◌, ◌∷◌, [], ◌↔◌, IsTrue, IsSome, Some, length, take, reverse, slice_get};
+ghost use Rattle.std.specs.Prelude.{map};
 ghost use Rattle.cal_base.specs.Stores as stores;
 ghost use Rattle.cal_base.specs.declared.value.Val.TheVariants as val;
 ghost use Rattle.machine_meaning.specs.Machine as machine;
@@ -9,7 +10,8 @@ ghost use Rattle.routine_vm.specs.Sites.{MayUse};
 ghost use Rattle.bytecode.specs.declared.module.Module.{Module};
 ghost use Rattle.routine_vm.specs.declared.frame.Body.{Body};
 ghost use Rattle.routine_vm.specs.States.{HasBody, HasWordsOf, RunsAbove, code_of, state_of};
-ghost use Rattle.routine_vm.specs.Steps.{Steps, StepsAnywhere, HasStep, HasBodiesOf, IsConstant, IsCalculation, IsComparison, IsOnWords, IsDirection, Pushes, Leaves, Calls, GivesBack, HaveRoom, HaveShape};
+ghost use Rattle.routine_vm.specs.Steps.{Steps, StepsAnywhere, HasStep, HasBodiesOf, IsConstant, IsCalculation, IsComparison, IsOnWords};
+ghost use Rattle.routine_vm.specs.Steps.{IsDirection, Pushes, Leaves, Calls, GivesBack, HaveRoom, HaveShape};
 
 use crate::arithmetic::{difference, item_at, negative, product, quotient, remainder, sum};
 use crate::frame::Frame;
@@ -256,7 +258,8 @@ fn on_words<W, S: Site<W>>(m: &Module, instr: &Instr, run: &mut Run, words: &mut
     requires room { length run.old.call.operands ≤ 1024 }
     requires limit { m.now.words ≤ MOST_WORDS }
     requires words { HasWordsOf m.now (S.store words.old) }
-    ensures steps { Steps instr.now (machine.step m.now instr.now (state_of m.now run.old (S.store words.old))) (state_of m.now run.old (S.store words.old)) result (state_of m.now run.new (S.store words.new)) }
+    ensures steps { Steps instr.now (machine.step m.now instr.now (state_of m.now run.old (S.store words.old)))
+        (state_of m.now run.old (S.store words.old)) result (state_of m.now run.new (S.store words.new)) }
     ensures bodies { HasBodiesOf run.old run.new }
     ensures leads { S.leads words.old words.new }
 {
@@ -351,7 +354,8 @@ pub fn perform<W, S: Site<W>>(
     requires shapes { HaveShape m.now.functions }
     requires limit { m.now.words ≤ MOST_WORDS }
     requires words { HasWordsOf m.now (S.store words.old) }
-    ensures steps { Steps instr.now (machine.step m.now instr.now (state_of m.now run.old (S.store words.old))) (state_of m.now run.old (S.store words.old)) result (state_of m.now run.new (S.store words.new)) }
+    ensures steps { Steps instr.now (machine.step m.now instr.now (state_of m.now run.old (S.store words.old)))
+        (state_of m.now run.old (S.store words.old)) result (state_of m.now run.new (S.store words.new)) }
     ensures bodies { (bottom : Body) → RunsAbove m.now bottom run.old → RunsAbove m.now bottom run.new }
     ensures leads { S.leads words.old words.new }
 {

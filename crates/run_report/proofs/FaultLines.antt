@@ -22,7 +22,8 @@ pub conflict_line : (step routine word other : ℕ) (a b c d : List ℕ) → a �
     → concat (codes "fault: step " ∷ a ∷ codes ", routine " ∷ b ∷ codes ": word " ∷ c ∷ codes " also written by routine " ∷ d ∷ codes "\n" ∷ [])
     ≡ fault_line (StepFailed step (Conflict routine word other))
 conflict_line step routine word other a b c d e f g h =
-    rw (e, f, g, h) (nine (codes "fault: step ") (decimal step) (codes ", routine ") (decimal routine) (codes ": word ") (decimal word) (codes " also written by routine ") (decimal other) (codes "\n"))
+    rw (e, f, g, h) (nine (codes "fault: step ") (decimal step) (codes ", routine ") (decimal routine) (codes ": word ") (decimal word) (codes " also written by routine ") (decimal other)
+    (codes "\n"))
 
 pub total_line : (step word : ℕ) (a b : List ℕ) → a ≡ decimal step → b ≡ decimal word
     → concat (codes "fault: step " ∷ a ∷ codes ": total at word " ∷ b ∷ codes "\n" ∷ []) ≡ fault_line (StepFailed step (Total word))

@@ -14,7 +14,8 @@ use Rattle.cal_base.specs.Text.{changes_from}
 use Rattle.run_report.specs.Lines.{Moves, change_line}
 
 -- a front went, and of the rest a front too
-pub moves_on : (P Q R : List ℕ → Type 0) (old new rest : List ℕ) → ((a b : List ℕ) → P a → Q b → R (a ++ b)) → (whole : List ℕ) → Moves P whole (old ++ rest) → Moves Q old new → Moves R whole (new ++ rest)
+pub moves_on : (P Q R : List ℕ → Type 0) (old new rest : List ℕ) → ((a b : List ℕ) → P a → Q b → R (a ++ b)) → (whole : List ℕ) → Moves P whole (old ++ rest) → Moves Q old new
+    → Moves R whole (new ++ rest)
 moves_on P Q R old new rest both whole way more = record {
   front = way.front ++ more.front;
   whole = way.whole ∙ ap (λ l. way.front ++ (l ++ rest)) more.whole ∙ ap (λ l. way.front ++ l) (append_assoc more.front new rest) ∙ sym (append_assoc way.front more.front (new ++ rest));

@@ -20,7 +20,8 @@ worker_line tally =
 -- the line of the caller
 abbrev pub caller_line : WorkerTally → List ℕ
 caller_line tally =
-    line (codes "caller: claims " ++ decimal tally.claims ++ codes " executed " ++ decimal tally.executed ++ codes " pages " ++ decimal tally.pages)
+    line (codes "caller: claims " ++ decimal tally.claims ++ codes " executed " ++ decimal tally.executed ++ codes " pages "
+    ++ decimal tally.pages)
 
 -- the line of a tally, by its number
 abbrev pub tally_line : WorkerTally → List ℕ

@@ -42,7 +42,8 @@ fn cause_text(cause: Cause) -> &'static str
 /// Writes the line of a trap in a routine.
 fn write_trap<S: Sink>(sink: &mut S, step: u64, routine: u32, cause: Cause) -> Result<(), Failed>
     ensures ok { OnOk result (Appends (S.written sink.old) (S.written sink.new) (text.fault_line (StepFailed step (Trap routine cause)))) }
-    ensures err { OnErr result (AppendsPrefix (S.written sink.old) (S.written sink.new) (text.fault_line (StepFailed step (Trap routine cause)))) }
+    ensures err { OnErr result (AppendsPrefix (S.written sink.old) (S.written sink.new)
+        (text.fault_line (StepFailed step (Trap routine cause)))) }
     ensures cause { HasCause (S.faults sink.old) (S.faults sink.new) result }
 {
     let mut step_text = Buffer::new();
@@ -67,8 +68,10 @@ fn write_conflict<S: Sink>(
     word: u32,
     other: u32,
 ) -> Result<(), Failed>
-    ensures ok { OnOk result (Appends (S.written sink.old) (S.written sink.new) (text.fault_line (StepFailed step (Conflict routine word other)))) }
-    ensures err { OnErr result (AppendsPrefix (S.written sink.old) (S.written sink.new) (text.fault_line (StepFailed step (Conflict routine word other)))) }
+    ensures ok { OnOk result (Appends (S.written sink.old) (S.written sink.new)
+        (text.fault_line (StepFailed step (Conflict routine word other)))) }
+    ensures err { OnErr result (AppendsPrefix (S.written sink.old) (S.written sink.new)
+        (text.fault_line (StepFailed step (Conflict routine word other)))) }
     ensures cause { HasCause (S.faults sink.old) (S.faults sink.new) result }
 {
     let mut step_text = Buffer::new();

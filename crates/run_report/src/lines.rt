@@ -66,7 +66,8 @@ pub(crate) fn make_room_for_file<F: Files>(
     lines: &mut ArrayString<ROOM>,
 ) -> Result<(), Failed>
     requires { F.created files.old name.now }
-    ensures ok { OnOk result (Moves (λ front. Told (F.holds files.old) (F.holds files.new) (AppendsTo name.now front)) lines.old.bytes lines.new.bytes) }
+    ensures ok { OnOk result (Moves (λ front. Told (F.holds files.old) (F.holds files.new) (AppendsTo name.now front)) lines.old.bytes
+        lines.new.bytes) }
     ensures room { OnOk result (array_string_len lines.new + LINE ≤ ROOM) }
     ensures err { OnErr result (Told (F.holds files.old) (F.holds files.new) (AppendsPrefixTo name.now lines.old.bytes)) }
     ensures created { StaysTrue (F.created files.old) (F.created files.new) }

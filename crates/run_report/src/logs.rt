@@ -91,8 +91,10 @@ pub fn log_lines<F: Files>(
     history: &[Entry],
 ) -> Result<(), Failed>
     requires { F.created files.old name.now }
-    ensures ok { OnOk result (Told (F.holds files.old) (F.holds files.new) (AppendsTo name.now (step_log (record { number = step; size = n; history = history.now })))) }
-    ensures err { OnErr result (Told (F.holds files.old) (F.holds files.new) (AppendsPrefixTo name.now (step_log (record { number = step; size = n; history = history.now })))) }
+    ensures ok { OnOk result (Told (F.holds files.old) (F.holds files.new)
+        (AppendsTo name.now (step_log (record { number = step; size = n; history = history.now })))) }
+    ensures err { OnErr result (Told (F.holds files.old) (F.holds files.new)
+        (AppendsPrefixTo name.now (step_log (record { number = step; size = n; history = history.now })))) }
     ensures created { StaysTrue (F.created files.old) (F.created files.new) }
     ensures cause { HasCause (F.faults files.old) (F.faults files.new) result }
 {

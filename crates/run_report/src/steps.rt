@@ -44,7 +44,8 @@ fn push_values<S: Sink>(
     before: i64,
     after: i64,
 ) -> Result<(), Failed>
-    ensures ok { OnOk result (Moves (Appends (S.written out.old) (S.written out.new)) (lines.old.bytes ++ change_line a before after) lines.new.bytes) }
+    ensures ok { OnOk result (Moves (Appends (S.written out.old) (S.written out.new)) (lines.old.bytes ++ change_line a before after)
+        lines.new.bytes) }
     ensures err { OnErr result (AppendsPrefix (S.written out.old) (S.written out.new) lines.old.bytes) }
     ensures cause { HasCause (S.faults out.old) (S.faults out.new) result }
 {
@@ -66,7 +67,8 @@ fn push_change<S: Sink>(
 ) -> Result<(), Failed>
     requires before { a < length before.now.memory }
     requires after { a < length after.now.memory }
-    ensures ok { OnOk result (Moves (Appends (S.written out.old) (S.written out.new)) (lines.old.bytes ++ change_line a (value_at before.now.memory a) (value_at after.now.memory a)) lines.new.bytes) }
+    ensures ok { OnOk result (Moves (Appends (S.written out.old) (S.written out.new))
+        (lines.old.bytes ++ change_line a (value_at before.now.memory a) (value_at after.now.memory a)) lines.new.bytes) }
     ensures err { OnErr result (AppendsPrefix (S.written out.old) (S.written out.new) lines.old.bytes) }
     ensures cause { HasCause (S.faults out.old) (S.faults out.new) result }
 {
@@ -85,7 +87,8 @@ pub fn step_lines<S: Sink>(
 ) -> Result<(), Failed>
     requires { length before.now.memory ≡ length after.now.memory }
     ensures ok { OnOk result (Appends (S.written out.old) (S.written out.new) (text.step_lines step before.now.memory after.now.memory)) }
-    ensures err { OnErr result (AppendsPrefix (S.written out.old) (S.written out.new) (text.step_lines step before.now.memory after.now.memory)) }
+    ensures err { OnErr result (AppendsPrefix (S.written out.old) (S.written out.new)
+        (text.step_lines step before.now.memory after.now.memory)) }
     ensures cause { HasCause (S.faults out.old) (S.faults out.new) result }
 {
     let mut lines = ArrayString::<ROOM>::new();

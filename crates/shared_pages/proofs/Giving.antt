@@ -20,7 +20,8 @@ freed [] f = refl
 freed (o ∷ pool) zero = refl
 freed (o ∷ pool) (suc f) = freed pool f
 
-pub giving_more : (all kept fewer : List Kept) (first pool later : Pool) (k : Kept) → IsGiving all kept first pool → kept ≡ fewer ++ k ∷ [] → AreApart all → later ≡ set pool k.frame None → free_count later ≡ free_count pool + 1 → IsGiving all fewer first later
+pub giving_more : (all kept fewer : List Kept) (first pool later : Pool) (k : Kept) → IsGiving all kept first pool → kept ≡ fewer ++ k ∷ [] → AreApart all → later ≡ set pool k.frame None
+    → free_count later ≡ free_count pool + 1 → IsGiving all fewer first later
 giving_more all kept fewer first pool later k is popped apart given counted =
     let n : ℕ = length fewer in
     let size : length kept ≡ n + 1 = ap (λ (l : List Kept). length l) popped ∙ length-append fewer (k ∷ []) in

@@ -1,5 +1,6 @@
 -- A page is held.
-use Rattle.std.proofs.Common.{◌≡◌, ◌≢◌, ℕ, zero, suc, ◌+◌, ◌*◌, ◌/◌, ◌%◌, ◌<◌, ℤ, Bool, true, false, List, [], ◌∷◌, ◌++◌, length, get_or, set, Option, Some, None, refl, sym, ap, ◌∙◌, subst, arith, ⊎_elim, is_some, ◌||◌}
+use Rattle.std.proofs.Common.{◌≡◌, ◌≢◌, ℕ, zero, suc, ◌+◌, ◌*◌, ◌/◌, ◌%◌, ◌<◌, ℤ, Bool, true, false, List, [], ◌∷◌, ◌++◌, length, get_or, set, Option, Some, None, refl, sym, ap, ◌∙◌, subst, arith}
+use Rattle.std.proofs.Common.{⊎_elim, is_some, ◌||◌}
 use Rattle.std.proofs.lemmas.Bool.{cases_eq, eq-eqb, ne_eqb, eqb-true}
 use Rattle.std.proofs.lemmas.List.{get_or-set_same, get_or-set_other, length-set, length-append, get_or_append_left, get_or_at}
 use Rattle.cal_base.specs.Memory.{Memory, value_at}
@@ -26,7 +27,8 @@ kept_from_place (k ∷ kept) p wanted zero there page version = let e = eq-eqb k
 kept_from_place (k ∷ kept) p wanted (suc i) there page version =
     let more = kept_from_place kept p wanted i (omega arith) page version in rw more (or_right _)
 
-pub kept_nowhere : (kept : List Kept) (p : ℕ) (wanted : Option ℕ) → ((i : ℕ) → i < length kept → page_at kept i ≡ p → is_same_version (version_at kept i) wanted ≡ false) → is_kept kept p wanted ≡ false
+pub kept_nowhere : (kept : List Kept) (p : ℕ) (wanted : Option ℕ) → ((i : ℕ) → i < length kept → page_at kept i ≡ p → is_same_version (version_at kept i) wanted ≡ false)
+    → is_kept kept p wanted ≡ false
 kept_nowhere [] p wanted none = refl
 kept_nowhere (k ∷ kept) p wanted none =
     let more = kept_nowhere kept p wanted (λ i there. none (suc i) (omega arith)) in
@@ -61,7 +63,8 @@ new_frame pool kept f out free i there same =
     let free_is : is_some (words_in pool f) ≡ false = ap (λ (o : Option (List ℤ)). is_some o) free in
     cc
 
-pub opened_reuse : (pool later : Pool) (shelf after : Shelved) (p : ℕ) (version : Option ℕ) (i : ℕ) → IsBacked pool shelf.size shelf.kept → Reuses pool later shelf after p version i → Opened pool later shelf after p version i
+pub opened_reuse : (pool later : Pool) (shelf after : Shelved) (p : ℕ) (version : Option ℕ) (i : ℕ) → IsBacked pool shelf.size shelf.kept → Reuses pool later shelf after p version i
+    → Opened pool later shelf after p version i
 opened_reuse pool later shelf after p version i backed is =
     let kept : List Kept = shelf.kept in
     let new : Kept = record { page = p; version = version; frame = frame_at kept i } in
@@ -94,7 +97,8 @@ opened_reuse pool later shelf after p version i backed is =
     in
     subst (λ (s : Shelved). Opened pool later shelf s p version i) (sym is.kept) (subst (λ (q : Pool). Opened pool q shelf made p version i) (sym is.same) opened)
 
-pub opened_more : (pool later : Pool) (shelf after : Shelved) (p : ℕ) (version : Option ℕ) (i : ℕ) → IsBacked pool shelf.size shelf.kept → Grows pool later shelf after p version i → Opened pool later shelf after p version i
+pub opened_more : (pool later : Pool) (shelf after : Shelved) (p : ℕ) (version : Option ℕ) (i : ℕ) → IsBacked pool shelf.size shelf.kept → Grows pool later shelf after p version i
+    → Opened pool later shelf after p version i
 opened_more pool later shelf after p version i backed is =
     let kept : List Kept = shelf.kept in
     let new : Kept = record { page = p; version = version; frame = is.frame } in
@@ -140,13 +144,15 @@ opened_more pool later shelf after p version i backed is =
     in
     subst (λ (s : Shelved). Opened pool later shelf s p version i) (sym is.kept) (subst (λ (x : ℕ). Opened pool later shelf made p version x) (sym is.place) opened)
 
-pub opened : (pool later : Pool) (shelf after : Shelved) (p : ℕ) (version : Option ℕ) (i : ℕ) → IsBacked pool shelf.size shelf.kept → Opens pool later shelf after p version i → Opened pool later shelf after p version i
+pub opened : (pool later : Pool) (shelf after : Shelved) (p : ℕ) (version : Option ℕ) (i : ℕ) → IsBacked pool shelf.size shelf.kept → Opens pool later shelf after p version i
+    → Opened pool later shelf after p version i
 opened pool later shelf after p version i backed is =
     ⊎_elim (opened_reuse pool later shelf after p version i backed) (opened_more pool later shelf after p version i backed) is
 
 -- ---- the page is copied into the frame
 
-pub held : (pool middle later : Pool) (shelf after : Shelved) (source : Paged) (p : ℕ) (version : Option ℕ) (i : ℕ) → Opened pool middle shelf after p version i → AreApart after.kept → Fits pool shelf.kept source → version ≡ version_of source p
+pub held : (pool middle later : Pool) (shelf after : Shelved) (source : Paged) (p : ℕ) (version : Option ℕ) (i : ℕ) → Opened pool middle shelf after p version i → AreApart after.kept
+    → Fits pool shelf.kept source → version ≡ version_of source p
     → later ≡ set middle (frame_at after.kept i) (Some (page_words source.memory p)) → Holds pool later shelf after source p version i
 held pool middle later shelf after source p version i is apart fits current filled =
     let g : ℕ = frame_at after.kept i in
@@ -200,7 +206,8 @@ held pool middle later shelf after source p version i is apart fits current fill
     subst (λ (q : Pool). Holds pool q shelf after source p version i) (sym filled) done
 
 -- a page that is kept in the source's version has its words in the frame
-pub current_words : (pool : Pool) (kept : List Kept) (source : Paged) (p i : ℕ) → Fits pool kept source → IsCurrent kept p (version_of source p) i → words_in pool (frame_at kept i) ≡ Some (page_words source.memory p)
+pub current_words : (pool : Pool) (kept : List Kept) (source : Paged) (p i : ℕ) → Fits pool kept source → IsCurrent kept p (version_of source p) i
+    → words_in pool (frame_at kept i) ≡ Some (page_words source.memory p)
 current_words pool kept source p i fits is =
     let one = some_version (version_at kept i) (version_of source p) is.version in
     (fits i one.0 one.0 is.there one.1 (ap (λ (x : ℕ). version_of source x) is.page ∙ one.2)).same refl ∙ ap (λ (x : ℕ). Some (page_words source.memory x)) is.page

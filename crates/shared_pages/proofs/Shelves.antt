@@ -37,7 +37,8 @@ pub page_in : (kept : List Kept) (marks : List Bool) (places : List (Option ℕ)
 page_in kept marks places hand capacity i is there = omega (arith, noted_in places (page_at kept i) i (is.noted i there), is.pages)
 
 -- two pages at two places differ
-pub places_differ : (kept : List Kept) (marks : List Bool) (places : List (Option ℕ)) (hand capacity i j : ℕ) → IsShelf kept marks places hand capacity → i < length kept → j < length kept → page_at kept i ≡ page_at kept j → i ≡ j
+pub places_differ : (kept : List Kept) (marks : List Bool) (places : List (Option ℕ)) (hand capacity i j : ℕ) → IsShelf kept marks places hand capacity → i < length kept → j < length kept
+    → page_at kept i ≡ page_at kept j → i ≡ j
 places_differ kept marks places hand capacity i j is here there same =
     let e : Some i ≡ Some j = sym (is.noted i here) ∙ ap (λ p. place_of places p) same ∙ is.noted j there in
     cc
@@ -62,7 +63,8 @@ pub record IsNoted (kept : List Kept) (places : List (Option ℕ)) (p i q j : �
   pub within : j < length kept
   pub page : page_at (set kept i (record { page = p; version = None; frame = 0 })) j ≡ q
 
-pub shelf_replaced : (kept : List Kept) (marks : List Bool) (places : List (Option ℕ)) (hand capacity i p : ℕ) (version : Option ℕ) → IsShelf kept marks places hand capacity → i < length kept → p < 4096 → MayStandAt kept p i
+pub shelf_replaced : (kept : List Kept) (marks : List Bool) (places : List (Option ℕ)) (hand capacity i p : ℕ) (version : Option ℕ) → IsShelf kept marks places hand capacity → i < length kept
+    → p < 4096 → MayStandAt kept p i
     → IsShelf (set kept i (record { page = p; version = version; frame = frame_at kept i })) marks (set (set places (page_at kept i) None) p (Some i)) hand capacity
 shelf_replaced kept marks places hand capacity i p version is here small stands =
     let new : Kept = record { page = p; version = version; frame = frame_at kept i } in
@@ -127,13 +129,15 @@ shelf_replaced kept marks places hand capacity i p version is here small stands 
 pub kept_read : (kept now : List Kept) (i : ℕ) (k : Kept) → kept ≡ now → k ≡ get_or kept i k → i < length now → k ≡ kept_at kept i
 kept_read kept now i k same read here = read ∙ get_or_default kept i k no_page (let e = ap (λ (l : List Kept). length l) same in omega arith)
 
-pub page_read : (kept now : List Kept) (marks : List Bool) (places : List (Option ℕ)) (hand capacity i : ℕ) (k : Kept) → kept ≡ now → k ≡ get_or kept i k → IsShelf kept marks places hand capacity → i < length now → k.page < length places
+pub page_read : (kept now : List Kept) (marks : List Bool) (places : List (Option ℕ)) (hand capacity i : ℕ) (k : Kept) → kept ≡ now → k ≡ get_or kept i k → IsShelf kept marks places hand capacity
+    → i < length now → k.page < length places
 page_read kept now marks places hand capacity i k same read is here =
     let e = ap (λ (l : List Kept). length l) same in
     let page = ap (λ (x : Kept). x.page) (kept_read kept now i k same read here) in
     omega (arith, page_in kept marks places hand capacity i is (omega arith), is.pages)
 
-pub replaced_read : (kept now : List Kept) (marks : List Bool) (places : List (Option ℕ)) (hand capacity i p : ℕ) (version : Option ℕ) (k : Kept) → kept ≡ now → k ≡ get_or kept i k → IsShelf kept marks places hand capacity → i < length now → p < 4096 → MayStandAt now p i
+pub replaced_read : (kept now : List Kept) (marks : List Bool) (places : List (Option ℕ)) (hand capacity i p : ℕ) (version : Option ℕ) (k : Kept) → kept ≡ now → k ≡ get_or kept i k
+    → IsShelf kept marks places hand capacity → i < length now → p < 4096 → MayStandAt now p i
     → IsShelf (set kept i (record { page = p; version = version; frame = k.frame })) marks (set (set places k.page None) p (Some i)) hand capacity
 replaced_read kept now marks places hand capacity i p version k same read is here small stands =
     let e = ap (λ (l : List Kept). length l) same in

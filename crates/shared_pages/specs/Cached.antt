@@ -31,7 +31,8 @@ pub record FitsPage (pool : Pool) (page : Kept) (source : Paged) (v u : ℕ) : T
 -- each kept page fits the source
 abbrev pub Fits : Pool → List Kept → Paged → Type 0
 Fits pool kept source =
-    (i v u : ℕ) → i < length kept → version_at kept i ≡ Some v → version_of source (page_at kept i) ≡ Some u → FitsPage pool (kept_at kept i) source v u
+    (i v u : ℕ) → i < length kept → version_at kept i ≡ Some v → version_of source (page_at kept i) ≡ Some u
+    → FitsPage pool (kept_at kept i) source v u
 
 -- the frames of the kept pages are out of the pool
 abbrev pub AreOut : Pool → List Kept → Type 0

@@ -13,7 +13,8 @@ use Rattle.csl_tree.specs.declared.program.Form.TheVariants as form
 use Rattle.csl_tree.specs.declared.program.Item.{Item}
 use Rattle.csl_tree.specs.declared.program.Expr.{Expr}
 use Rattle.csl_grammar.specs.Expressions.{SpellsExpr, whole}
-use Rattle.csl_grammar.specs.Programs.{stmt, ListOf, SpellsItem, SpellsStmt, declared, changed, calls, block, if_else, while_loop, for_loop, break_out, goes_on, returns, returns_value, asserts, prints, parallel, braces, none}
+use Rattle.csl_grammar.specs.Programs.{stmt, ListOf, SpellsItem, SpellsStmt, declared, changed, calls, block, if_else, while_loop, for_loop, break_out, goes_on, returns, returns_value, asserts}
+use Rattle.csl_grammar.specs.Programs.{prints, parallel, braces, none}
 use Rattle.csl_grammar.proofs.UniqueProgram.{form_is, form_at, form_of_kind, form_of_word, form_of_mark, has_form, by_word}
 use Rattle.expression_parser.specs.Reading.{Found, Refused, Tok, tok, Ret, ret, Then, seq, Either, this, that, ListUntil, behind, stops_anywhere}
 use Rattle.statement_parser.specs.Statements.{NoElse, EndsAs, ReturnRest, AssertRest, PrintRest}
@@ -89,7 +90,8 @@ no_form (kind.Text t) ts name brace h o = refl
 no_form (kind.Mark m) ts name brace h o = mark_form m (λ e. brace (ap (λ x. kind.Mark x) e))
 no_form kind.End ts name brace h o = refl
 
-pub leaf_refused : (first : Token) (tokens : List Token) → ((n : Name) → first.kind ≡ kind.Named n → ⊥) → (first.kind ≡ kind.Mark mark.OpenBrace → ⊥) → holding_of first.kind ≡ None → Others first.kind → Refused SpellsStmt NoElse (first ∷ tokens) first.at
+pub leaf_refused : (first : Token) (tokens : List Token) → ((n : Name) → first.kind ≡ kind.Named n → ⊥) → (first.kind ≡ kind.Mark mark.OpenBrace → ⊥) → holding_of first.kind ≡ None → Others first.kind
+    → Refused SpellsStmt NoElse (first ∷ tokens) first.at
 leaf_refused first tokens name brace h o =
     refused_here SpellsStmt NoElse first tokens (λ others r s d e. has_form d (no_form first.kind others name brace h o))
     (some_token (kind.Mark mark.OpenBrace) ∷ some_token (kind.Mark mark.CloseBrace) ∷ []) (stmt 0 (form.Block [])) (λ others. block (braces refl none refl))
@@ -104,7 +106,8 @@ break_back first w (break_out w' k) = seq (tok k) ret
 break_back first {ts = ts} w d = absurd (omega (arith, form_is d, by_word first ts w))
 
 pub break_same : (first : Token) (tokens : List Token) → first.kind ≡ kind.Word word.Break → Passes (EndsAs (stmt first.at form.Break)) (behind first SpellsStmt) NoElse tokens tokens
-break_same first tokens w = passes_same (EndsAs (stmt first.at form.Break)) (behind first SpellsStmt) NoElse tokens (record { there = λ ts r s d. break_there first w d; back = λ ts r s d h. break_back first w d })
+break_same first tokens w = passes_same (EndsAs (stmt first.at form.Break)) (behind first SpellsStmt) NoElse tokens
+    (record { there = λ ts r s d. break_there first w d; back = λ ts r s d h. break_back first w d })
 
 continue_there : (first : Token) {ts r : List Token} {s : Stmt} → first.kind ≡ kind.Word word.Continue → EndsAs (stmt first.at form.Continue) ts r s → SpellsStmt (first ∷ ts) r s
 continue_there first w (seq (tok k) ret) = goes_on w k
@@ -114,9 +117,11 @@ continue_back first w (goes_on w' k) = seq (tok k) ret
 continue_back first {ts = ts} w d = absurd (omega (arith, form_is d, by_word first ts w))
 
 pub continue_same : (first : Token) (tokens : List Token) → first.kind ≡ kind.Word word.Continue → Passes (EndsAs (stmt first.at form.Continue)) (behind first SpellsStmt) NoElse tokens tokens
-continue_same first tokens w = passes_same (EndsAs (stmt first.at form.Continue)) (behind first SpellsStmt) NoElse tokens (record { there = λ ts r s d. continue_there first w d; back = λ ts r s d h. continue_back first w d })
+continue_same first tokens w = passes_same (EndsAs (stmt first.at form.Continue)) (behind first SpellsStmt) NoElse tokens
+    (record { there = λ ts r s d. continue_there first w d; back = λ ts r s d h. continue_back first w d })
 
-return_ends : (first : Token) (value : Expr) {ts m r : List Token} {s : Stmt} → first.kind ≡ kind.Word word.Return → SpellsExpr whole ts m value → EndsAs (stmt first.at (form.Return (Some value))) m r s → SpellsStmt (first ∷ ts) r s
+return_ends : (first : Token) (value : Expr) {ts m r : List Token} {s : Stmt} → first.kind ≡ kind.Word word.Return → SpellsExpr whole ts m value
+    → EndsAs (stmt first.at (form.Return (Some value))) m r s → SpellsStmt (first ∷ ts) r s
 return_ends first value w d (seq (tok k) ret) = returns_value w d k
 
 return_there : (first : Token) {ts r : List Token} {s : Stmt} → first.kind ≡ kind.Word word.Return → ReturnRest first ts r s → SpellsStmt (first ∷ ts) r s
@@ -131,7 +136,8 @@ return_back first {ts = ts} w d = absurd (omega (arith, form_is d, by_word first
 pub return_same : (first : Token) (tokens : List Token) → first.kind ≡ kind.Word word.Return → Passes (ReturnRest first) (behind first SpellsStmt) NoElse tokens tokens
 return_same first tokens w = passes_same (ReturnRest first) (behind first SpellsStmt) NoElse tokens (record { there = λ ts r s d. return_there first w d; back = λ ts r s d h. return_back first w d })
 
-assert_ends : (first : Token) (test : Expr) {opening closing : Token} {ts m r : List Token} {s : Stmt} → first.kind ≡ kind.Word word.Assert → opening.kind ≡ kind.Mark mark.OpenParen → SpellsExpr whole ts (closing ∷ m) test → closing.kind ≡ kind.Mark mark.CloseParen → EndsAs (stmt first.at (form.Assert test)) m r s → SpellsStmt (first ∷ opening ∷ ts) r s
+assert_ends : (first : Token) (test : Expr) {opening closing : Token} {ts m r : List Token} {s : Stmt} → first.kind ≡ kind.Word word.Assert → opening.kind ≡ kind.Mark mark.OpenParen
+    → SpellsExpr whole ts (closing ∷ m) test → closing.kind ≡ kind.Mark mark.CloseParen → EndsAs (stmt first.at (form.Assert test)) m r s → SpellsStmt (first ∷ opening ∷ ts) r s
 assert_ends first test w o d c (seq (tok k) ret) = asserts w o d c k
 
 assert_there : (first : Token) {ts r : List Token} {s : Stmt} → first.kind ≡ kind.Word word.Assert → AssertRest first ts r s → SpellsStmt (first ∷ ts) r s
@@ -144,7 +150,8 @@ assert_back first {ts = ts} w d = absurd (omega (arith, form_is d, by_word first
 pub assert_same : (first : Token) (tokens : List Token) → first.kind ≡ kind.Word word.Assert → Passes (AssertRest first) (behind first SpellsStmt) NoElse tokens tokens
 assert_same first tokens w = passes_same (AssertRest first) (behind first SpellsStmt) NoElse tokens (record { there = λ ts r s d. assert_there first w d; back = λ ts r s d h. assert_back first w d })
 
-print_ends : (first : Token) (items : List Item) {opening closing : Token} {ts m r : List Token} {s : Stmt} → first.kind ≡ kind.Word word.Print → opening.kind ≡ kind.Mark mark.OpenParen → ListOf SpellsItem ts (closing ∷ m) items → closing.kind ≡ kind.Mark mark.CloseParen → EndsAs (stmt first.at (form.Print items)) m r s → SpellsStmt (first ∷ opening ∷ ts) r s
+print_ends : (first : Token) (items : List Item) {opening closing : Token} {ts m r : List Token} {s : Stmt} → first.kind ≡ kind.Word word.Print → opening.kind ≡ kind.Mark mark.OpenParen
+    → ListOf SpellsItem ts (closing ∷ m) items → closing.kind ≡ kind.Mark mark.CloseParen → EndsAs (stmt first.at (form.Print items)) m r s → SpellsStmt (first ∷ opening ∷ ts) r s
 print_ends first items w o d c (seq (tok k) ret) = prints w o d c k
 
 print_there : (first : Token) {ts r : List Token} {s : Stmt} → first.kind ≡ kind.Word word.Print → PrintRest first ts r s → SpellsStmt (first ∷ ts) r s

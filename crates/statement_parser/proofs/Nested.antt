@@ -15,16 +15,20 @@ use Rattle.csl_tree.specs.declared.program.Form.TheVariants as form
 use Rattle.expression_parser.specs.declared.ParseError.{ParseError}
 use Rattle.csl_grammar.specs.Expressions.{SpellsExpr, whole}
 use Rattle.csl_grammar.specs.Stops.{IsEnded, BeginsOtherThan, Stops}
-use Rattle.csl_grammar.specs.Programs.{stmt, arm, Each, stop, again, SpellsStmt, declared, changed, calls, block, if_else, while_loop, for_loop, break_out, goes_on, returns, returns_value, asserts, prints, parallel, SpellsStart, declares, changes, SpellsChange, SpellsBlock, braces, SpellsStmts, none, one_more, SpellsArm, tested, SpellsElse, no_else, else_if, else_block, SpellsRoutine, routine, SpellsRoutines, no_routine, one_routine}
+use Rattle.csl_grammar.specs.Programs.{stmt, arm, Each, stop, again, SpellsStmt, declared, changed, calls, block, if_else, while_loop, for_loop, break_out, goes_on, returns, returns_value, asserts}
+use Rattle.csl_grammar.specs.Programs.{prints, parallel, SpellsStart, declares, changes, SpellsChange, SpellsBlock, braces, SpellsStmts, none, one_more, SpellsArm, tested, SpellsElse, no_else}
+use Rattle.csl_grammar.specs.Programs.{else_if, else_block, SpellsRoutine, routine, SpellsRoutines, no_routine, one_routine}
 use Rattle.csl_grammar.proofs.Unique.{unique, begins_clash}
 use Rattle.csl_grammar.proofs.UniqueParts.{unique_change, stops_paren, stops_semicolon}
-use Rattle.csl_grammar.proofs.UniqueProgram.{form_is, form_at, by_word, by_mark, unique_stmt, unique_start, unique_block, unique_stmts, unique_arm, unique_else, unique_routine, unique_routines, stmts_no_else}
+use Rattle.csl_grammar.proofs.UniqueProgram.{form_is, form_at, by_word, by_mark, unique_stmt, unique_start, unique_block, unique_stmts, unique_arm, unique_else, unique_routine, unique_routines}
+use Rattle.csl_grammar.proofs.UniqueProgram.{stmts_no_else}
 use Rattle.expression_parser.specs.Reading.{Found, Refused, Fails, Answers, Tok, tok, NameTok, name_tok, Ret, ret, Then, seq, Until, behind, stops_anywhere}
 use Rattle.statement_parser.specs.Statements.{NoElse, EndsAs, BlockRest, WhileRest, ForRest, IfRest, ElseFrom, RoutinesRest, ParRest, TwoNames, both}
 use Rattle.expression_parser.proofs.Sequence.{Passes, passes_same, passes_behind, passes_through, passed, passed_error}
 use Rattle.expression_parser.proofs.Rules.{stops_same}
 use Rattle.expression_parser.proofs.Single.{some_token, ended_behind, token_found}
-use Rattle.expression_parser.proofs.Then.{Completes, Follows, completes_ret, completes_tok, completes_name, completes_then, completes_until, tok_follows, then_first, then_second, then_found, then_answers, then_passes, tok_found, tok_err, ret_found, narrowed, narrowed_by, begins_other, no_name, until_done, until_err, until_more}
+use Rattle.expression_parser.proofs.Then.{Completes, Follows, completes_ret, completes_tok, completes_name, completes_then, completes_until, tok_follows, then_first, then_second, then_found}
+use Rattle.expression_parser.proofs.Then.{then_answers, then_passes, tok_found, tok_err, ret_found, narrowed, narrowed_by, begins_other, no_name, until_done, until_err, until_more}
 use Rattle.statement_parser.proofs.StatementParts.{some_expr, some_change, ends_as, expr_before, semicolon_behind}
 
 abbrev brace : TokenKind
@@ -59,13 +63,16 @@ no_else_same token xs ys h = h
 before_stmts : (ts behind_it : List Token) (xs : List Stmt) (last : Token) → Each SpellsStmt ts (last ∷ behind_it) xs → last.kind ≡ brace → NoElse ts
 before_stmts ts behind_it xs last d k = stmts_no_else (each_stmts d) refl k
 
-pub block_done : (sofar : List Stmt) (tokens : List Token) (first : Token) (rest : List Token) → IsEnded tokens → tokens ≡ first ∷ rest → first.kind ≡ brace → Found (Until brace SpellsStmt sofar) stops_anywhere tokens rest sofar
+pub block_done : (sofar : List Stmt) (tokens : List Token) (first : Token) (rest : List Token) → IsEnded tokens → tokens ≡ first ∷ rest → first.kind ≡ brace
+    → Found (Until brace SpellsStmt sofar) stops_anywhere tokens rest sofar
 block_done sofar tokens first rest ended split same = until_done brace SpellsStmt NoElse stmt_once no_else_same before_stmts sofar tokens first rest ended split same (λ h. cc)
 
-pub block_err : (sofar : List Stmt) (tokens : List Token) (e : ParseError) → BeginsOtherThan brace tokens → Fails SpellsStmt NoElse tokens e → Fails (Until brace SpellsStmt sofar) stops_anywhere tokens e
+pub block_err : (sofar : List Stmt) (tokens : List Token) (e : ParseError) → BeginsOtherThan brace tokens → Fails SpellsStmt NoElse tokens e
+    → Fails (Until brace SpellsStmt sofar) stops_anywhere tokens e
 block_err = until_err brace SpellsStmt NoElse stmt_once no_else_same before_stmts
 
-pub block_more : (sofar : List Stmt) (tokens middle : List Token) (x : Stmt) → BeginsOtherThan brace tokens → Found SpellsStmt NoElse tokens middle x → Passes (Until brace SpellsStmt (sofar ++ x ∷ [])) (Until brace SpellsStmt sofar) stops_anywhere middle tokens
+pub block_more : (sofar : List Stmt) (tokens middle : List Token) (x : Stmt) → BeginsOtherThan brace tokens → Found SpellsStmt NoElse tokens middle x
+    → Passes (Until brace SpellsStmt (sofar ++ x ∷ [])) (Until brace SpellsStmt sofar) stops_anywhere middle tokens
 block_more = until_more brace SpellsStmt NoElse stmt_once no_else_same before_stmts
 
 some_rest : Completes BlockRest
@@ -83,7 +90,8 @@ block_back : {ts r : List Token} {b : List Stmt} → SpellsBlock ts r b → Then
 block_back (braces {closing = z} {body = body} o d c) = seq (tok o) (z, body, stmts_each d, c, refl)
 
 pub block_same : (tokens : List Token) → Passes (Then (Tok (kind.Mark mark.OpenBrace)) (λ opening. BlockRest)) SpellsBlock stops_anywhere tokens tokens
-block_same tokens = passes_same (Then (Tok (kind.Mark mark.OpenBrace)) (λ opening. BlockRest)) SpellsBlock stops_anywhere tokens (record { there = λ ts r b d. block_there d; back = λ ts r b d h. block_back d })
+block_same tokens = passes_same (Then (Tok (kind.Mark mark.OpenBrace)) (λ opening. BlockRest)) SpellsBlock stops_anywhere tokens
+    (record { there = λ ts r b d. block_there d; back = λ ts r b d h. block_back d })
 
 rest_once : {tokens middle middle' : List Token} {b b' : List Stmt} → BlockRest tokens middle b → BlockRest tokens middle' b' → (middle ≡ middle') × (b ≡ b')
 rest_once d d' = let same : _ × _ = unique_stmts (each_stmts d.2) (each_stmts d'.2) refl refl refl d.3 d'.3 in ((cc same.0), (d.4 ∙ same.1 ∙ sym d'.4))
@@ -97,17 +105,21 @@ inner_follows f = record {
   completes = λ body. completes_ret (f body);
 }
 
-inner_there : (first : Token) {ts r : List Token} {s : Stmt} → first.kind ≡ kind.Mark mark.OpenBrace → Then BlockRest (λ body. Ret (stmt first.at (form.Block body))) ts r s → SpellsStmt (first ∷ ts) r s
+inner_there : (first : Token) {ts r : List Token} {s : Stmt} → first.kind ≡ kind.Mark mark.OpenBrace → Then BlockRest (λ body. Ret (stmt first.at (form.Block body))) ts r s
+    → SpellsStmt (first ∷ ts) r s
 inner_there first {ts = ts} w (seq {middle = m} {part = body} d e) =
     let at : List Stmt → Type 0 = λ x. SpellsStmt (first ∷ ts) m (stmt first.at (form.Block x)) in
     ends_ret (λ y t. SpellsStmt (first ∷ ts) y t) (stmt first.at (form.Block body)) e (subst at (sym d.4) (block (braces w (each_stmts d.2) d.3)))
 
-inner_back : (first : Token) {ts r : List Token} {s : Stmt} → first.kind ≡ kind.Mark mark.OpenBrace → SpellsStmt (first ∷ ts) r s → Then BlockRest (λ body. Ret (stmt first.at (form.Block body))) ts r s
+inner_back : (first : Token) {ts r : List Token} {s : Stmt} → first.kind ≡ kind.Mark mark.OpenBrace → SpellsStmt (first ∷ ts) r s
+    → Then BlockRest (λ body. Ret (stmt first.at (form.Block body))) ts r s
 inner_back first w (block (braces {closing = z} {body = body} o d c)) = seq (z, body, stmts_each d, c, refl) ret
 inner_back first {ts = ts} w d = absurd (omega (arith, form_is d, by_mark first ts w))
 
-pub inner_same : (first : Token) (tokens : List Token) → first.kind ≡ kind.Mark mark.OpenBrace → Passes (Then BlockRest (λ body. Ret (stmt first.at (form.Block body)))) (behind first SpellsStmt) NoElse tokens tokens
-inner_same first tokens w = passes_same (Then BlockRest (λ body. Ret (stmt first.at (form.Block body)))) (behind first SpellsStmt) NoElse tokens (record { there = λ ts r s d. inner_there first w d; back = λ ts r s d h. inner_back first w d })
+pub inner_same : (first : Token) (tokens : List Token) → first.kind ≡ kind.Mark mark.OpenBrace
+    → Passes (Then BlockRest (λ body. Ret (stmt first.at (form.Block body)))) (behind first SpellsStmt) NoElse tokens tokens
+inner_same first tokens w = passes_same (Then BlockRest (λ body. Ret (stmt first.at (form.Block body)))) (behind first SpellsStmt) NoElse tokens
+    (record { there = λ ts r s d. inner_there first w d; back = λ ts r s d h. inner_back first w d })
 
 some_block : Completes SpellsBlock
 some_block = record { ending = some_token (kind.Mark mark.OpenBrace) ∷ some_token brace ∷ []; finished = []; some = λ others. braces refl none refl }
@@ -131,10 +143,12 @@ closing_body f last = tok_follows (kind.Mark mark.CloseParen) last (λ closing. 
 test_completes : {T : Type 0} (g : List Stmt → T) → Completes (Then (Tok (kind.Mark mark.CloseParen)) (λ closing. Then SpellsBlock (λ body. Ret (g body))))
 test_completes g = completes_then (completes_tok (kind.Mark mark.CloseParen)) (λ closing. body_completes g)
 
-pub test_body : {T : Type 0} (g : Expr → List Stmt → T) (last : List Token → Type 0) → Follows (SpellsExpr whole) (Stops whole) (λ test. Then (Tok (kind.Mark mark.CloseParen)) (λ closing. Then SpellsBlock (λ body. Ret (g test body)))) last
+pub test_body : {T : Type 0} (g : Expr → List Stmt → T) (last : List Token → Type 0) → Follows (SpellsExpr whole) (Stops whole)
+    (λ test. Then (Tok (kind.Mark mark.CloseParen)) (λ closing. Then SpellsBlock (λ body. Ret (g test body)))) last
 test_body g last = expr_before mark.CloseParen last refl (λ h. cc) (λ h. cc) (λ test. test_completes (g test))
 
-pub opening_body : {T : Type 0} (g : Expr → List Stmt → T) (last : List Token → Type 0) → Follows (Tok round) stops_anywhere (λ opening. Then (SpellsExpr whole) (λ test. Then (Tok (kind.Mark mark.CloseParen)) (λ closing. Then SpellsBlock (λ body. Ret (g test body))))) last
+pub opening_body : {T : Type 0} (g : Expr → List Stmt → T) (last : List Token → Type 0) → Follows (Tok round) stops_anywhere
+    (λ opening. Then (SpellsExpr whole) (λ test. Then (Tok (kind.Mark mark.CloseParen)) (λ closing. Then SpellsBlock (λ body. Ret (g test body))))) last
 opening_body g last = tok_follows round last (λ opening. completes_then some_expr (λ test. test_completes (g test)))
 
 abbrev pub ArmChain : List Token → List Token → Arm → Type 0
@@ -150,7 +164,8 @@ pub arm_same : (tokens : List Token) → Passes ArmChain SpellsArm stops_anywher
 arm_same tokens = passes_same ArmChain SpellsArm stops_anywhere tokens (record { there = λ ts r a d. arm_there d; back = λ ts r a d h. arm_back d })
 
 while_there : (first : Token) {ts r : List Token} {s : Stmt} → first.kind ≡ kind.Word word.While → WhileRest first ts r s → SpellsStmt (first ∷ ts) r s
-while_there first w (seq {middle = m} (tok {token = q} o) (seq {part = test} d (seq (tok c) (seq {part = body} b e)))) = ends_ret (λ y t. SpellsStmt (first ∷ q ∷ m) y t) (stmt first.at (form.While test body)) e (while_loop w o d c b)
+while_there first w (seq {middle = m} (tok {token = q} o) (seq {part = test} d (seq (tok c) (seq {part = body} b e)))) = ends_ret (λ y t. SpellsStmt (first ∷ q ∷ m) y t)
+    (stmt first.at (form.While test body)) e (while_loop w o d c b)
 
 while_back : (first : Token) {ts r : List Token} {s : Stmt} → first.kind ≡ kind.Word word.While → SpellsStmt (first ∷ ts) r s → WhileRest first ts r s
 while_back first w (while_loop w' o d c b) = seq (tok o) (seq d (seq (tok c) (seq b ret)))
@@ -176,7 +191,8 @@ for_same first tokens w = passes_same (ForRest first) (behind first SpellsStmt) 
 pub for_body : (f : List Stmt → Stmt) → Follows (Tok (kind.Mark mark.CloseParen)) stops_anywhere (λ closing. Then SpellsBlock (λ body. Ret (f body))) NoElse
 for_body f = closing_body f NoElse
 
-change_ahead : {T : Type 0} {second : Token → List Token → List Token → T → Type 0} {m : Mark} {middle rest : List Token} {tree : T} → m ≡ mark.CloseParen → Then (Tok (kind.Mark m)) second middle rest tree → Stops whole middle
+change_ahead : {T : Type 0} {second : Token → List Token → List Token → T → Type 0} {m : Mark} {middle rest : List Token} {tree : T} → m ≡ mark.CloseParen
+    → Then (Tok (kind.Mark m)) second middle rest tree → Stops whole middle
 change_ahead e (seq (tok k) d) = stops_paren (cc (k, e))
 
 pub for_next : (f : Stmt → List Stmt → Stmt) → Follows SpellsChange (Stops whole) (λ next. Then (Tok (kind.Mark mark.CloseParen)) (λ closing. Then SpellsBlock (λ body. Ret (f next body)))) NoElse
@@ -190,26 +206,34 @@ for_next f = record {
 next_completes : (f : Stmt → List Stmt → Stmt) → Completes (Then SpellsChange (λ next. Then (Tok (kind.Mark mark.CloseParen)) (λ closing. Then SpellsBlock (λ body. Ret (f next body)))))
 next_completes f = completes_then some_change (λ next. test_completes (f next))
 
-pub for_two : (f : Stmt → List Stmt → Stmt) → Follows (Tok (kind.Mark mark.Semicolon)) stops_anywhere (λ two. Then SpellsChange (λ next. Then (Tok (kind.Mark mark.CloseParen)) (λ closing. Then SpellsBlock (λ body. Ret (f next body))))) NoElse
+pub for_two : (f : Stmt → List Stmt → Stmt) → Follows (Tok (kind.Mark mark.Semicolon)) stops_anywhere
+    (λ two. Then SpellsChange (λ next. Then (Tok (kind.Mark mark.CloseParen)) (λ closing. Then SpellsBlock (λ body. Ret (f next body))))) NoElse
 for_two f = tok_follows (kind.Mark mark.Semicolon) NoElse (λ two. next_completes f)
 
-two_completes : (f : Stmt → List Stmt → Stmt) → Completes (Then (Tok (kind.Mark mark.Semicolon)) (λ two. Then SpellsChange (λ next. Then (Tok (kind.Mark mark.CloseParen)) (λ closing. Then SpellsBlock (λ body. Ret (f next body))))))
+two_completes : (f : Stmt → List Stmt → Stmt) → Completes (Then (Tok (kind.Mark mark.Semicolon))
+    (λ two. Then SpellsChange (λ next. Then (Tok (kind.Mark mark.CloseParen)) (λ closing. Then SpellsBlock (λ body. Ret (f next body))))))
 two_completes f = completes_then (completes_tok (kind.Mark mark.Semicolon)) (λ two. next_completes f)
 
-pub for_test : (f : Expr → Stmt → List Stmt → Stmt) → Follows (SpellsExpr whole) (Stops whole) (λ test. Then (Tok (kind.Mark mark.Semicolon)) (λ two. Then SpellsChange (λ next. Then (Tok (kind.Mark mark.CloseParen)) (λ closing. Then SpellsBlock (λ body. Ret (f test next body)))))) NoElse
+pub for_test : (f : Expr → Stmt → List Stmt → Stmt) → Follows (SpellsExpr whole) (Stops whole)
+    (λ test. Then (Tok (kind.Mark mark.Semicolon)) (λ two. Then SpellsChange (λ next. Then (Tok (kind.Mark mark.CloseParen)) (λ closing. Then SpellsBlock (λ body. Ret (f test next body)))))) NoElse
 for_test f = expr_before mark.Semicolon NoElse refl (λ h. cc) (λ h. cc) (λ test. two_completes (f test))
 
-some_test : (f : Expr → Stmt → List Stmt → Stmt) → Completes (Then (SpellsExpr whole) (λ test. Then (Tok (kind.Mark mark.Semicolon)) (λ two. Then SpellsChange (λ next. Then (Tok (kind.Mark mark.CloseParen)) (λ closing. Then SpellsBlock (λ body. Ret (f test next body)))))))
+some_test : (f : Expr → Stmt → List Stmt → Stmt) → Completes (Then (SpellsExpr whole) (λ test. Then (Tok (kind.Mark mark.Semicolon))
+    (λ two. Then SpellsChange (λ next. Then (Tok (kind.Mark mark.CloseParen)) (λ closing. Then SpellsBlock (λ body. Ret (f test next body)))))))
 some_test f = completes_then some_expr (λ test. two_completes (f test))
 
-pub for_one : (f : Expr → Stmt → List Stmt → Stmt) → Follows (Tok (kind.Mark mark.Semicolon)) stops_anywhere (λ one. Then (SpellsExpr whole) (λ test. Then (Tok (kind.Mark mark.Semicolon)) (λ two. Then SpellsChange (λ next. Then (Tok (kind.Mark mark.CloseParen)) (λ closing. Then SpellsBlock (λ body. Ret (f test next body))))))) NoElse
+pub for_one : (f : Expr → Stmt → List Stmt → Stmt) → Follows (Tok (kind.Mark mark.Semicolon)) stops_anywhere
+    (λ one. Then (SpellsExpr whole) (λ test. Then (Tok (kind.Mark mark.Semicolon)) (λ two. Then SpellsChange
+    (λ next. Then (Tok (kind.Mark mark.CloseParen)) (λ closing. Then SpellsBlock (λ body. Ret (f test next body))))))) NoElse
 for_one f = tok_follows (kind.Mark mark.Semicolon) NoElse (λ one. some_test f)
 
-start_ahead : {T : Type 0} {second : Token → List Token → List Token → T → Type 0} {middle rest : List Token} {tree : T} → Then (Tok (kind.Mark mark.Semicolon)) second middle rest tree → Stops whole middle
+start_ahead : {T : Type 0} {second : Token → List Token → List Token → T → Type 0} {middle rest : List Token} {tree : T} → Then (Tok (kind.Mark mark.Semicolon)) second middle rest tree
+    → Stops whole middle
 start_ahead (seq (tok k) d) = stops_semicolon k
 
 abbrev pub ForTail : (Expr → Stmt → List Stmt → Stmt) → List Token → List Token → Stmt → Type 0
-ForTail f = Then (Tok (kind.Mark mark.Semicolon)) (λ one. Then (SpellsExpr whole) (λ test. Then (Tok (kind.Mark mark.Semicolon)) (λ two. Then SpellsChange (λ next. Then (Tok (kind.Mark mark.CloseParen)) (λ closing. Then SpellsBlock (λ body. Ret (f test next body)))))))
+ForTail f = Then (Tok (kind.Mark mark.Semicolon)) (λ one. Then (SpellsExpr whole) (λ test. Then (Tok (kind.Mark mark.Semicolon))
+    (λ two. Then SpellsChange (λ next. Then (Tok (kind.Mark mark.CloseParen)) (λ closing. Then SpellsBlock (λ body. Ret (f test next body)))))))
 
 tail_completes : (f : Expr → Stmt → List Stmt → Stmt) → Completes (ForTail f)
 tail_completes f = completes_then (completes_tok (kind.Mark mark.Semicolon)) (λ one. some_test f)
@@ -278,10 +302,13 @@ arms_done first sofar tokens ended other = record {
 }
 
 -- behind an `else` that an `if` follows
-another_there : (first e : Token) (sofar : List Arm) {ts r : List Token} {s : Stmt} → e.kind ≡ kind.Word word.Else → Then (Tok (kind.Word word.If)) (λ i. Then SpellsArm (λ a. ElseFrom first (sofar ++ a ∷ []))) ts r s → ElseFrom first sofar (e ∷ ts) r s
+another_there : (first e : Token) (sofar : List Arm) {ts r : List Token} {s : Stmt} → e.kind ≡ kind.Word word.Else
+    → Then (Tok (kind.Word word.If)) (λ i. Then SpellsArm (λ a. ElseFrom first (sofar ++ a ∷ []))) ts r s → ElseFrom first sofar (e ∷ ts) r s
 another_there first e sofar k (seq (tok i) (seq {part = a} d h)) = (a ∷ h.0, h.1, else_if k i d h.2, h.3 ∙ ap (λ x. stmt first.at (form.If x h.1)) (append_assoc sofar (a ∷ []) h.0))
 
-another_back : (first : Token) (sofar : List Arm) {e n : Token} {all b r : List Token} {arms : List Arm} {last : Option (List Stmt)} {s : Stmt} → SpellsElse all r arms last → s ≡ stmt first.at (form.If (sofar ++ arms) last) → all ≡ e ∷ n ∷ b → e.kind ≡ kind.Word word.Else → n.kind ≡ kind.Word word.If → NoElse r → Then (Tok (kind.Word word.If)) (λ i. Then SpellsArm (λ a. ElseFrom first (sofar ++ a ∷ []))) (n ∷ b) r s
+another_back : (first : Token) (sofar : List Arm) {e n : Token} {all b r : List Token} {arms : List Arm} {last : Option (List Stmt)} {s : Stmt} → SpellsElse all r arms last
+    → s ≡ stmt first.at (form.If (sofar ++ arms) last) → all ≡ e ∷ n ∷ b → e.kind ≡ kind.Word word.Else → n.kind ≡ kind.Word word.If → NoElse r
+    → Then (Tok (kind.Word word.If)) (λ i. Then SpellsArm (λ a. ElseFrom first (sofar ++ a ∷ []))) (n ∷ b) r s
 another_back first sofar {r = r} no_else is all k i h = absurd (begins_clash r h all k)
 another_back first sofar {n = n} {b = b} {r = r} {s = s} (else_if {two = two} {tokens = w} {a = a} {arms = arms} {last = last} k' i' d m) is all k i h =
     let same : two ∷ w ≡ n ∷ b = cc in
@@ -289,25 +316,32 @@ another_back first sofar {n = n} {b = b} {r = r} {s = s} (else_if {two = two} {t
     subst at same (seq (tok i') (seq d (arms, last, m, is ∙ ap (λ x. stmt first.at (form.If x last)) (sym (append_assoc sofar (a ∷ []) arms)))))
 another_back first sofar (else_block k' (braces o d c)) is all k i h = absurd (cc)
 
-another_at : (first e : Token) (sofar : List Arm) (n : Token) {ts b r : List Token} {s : Stmt} → ts ≡ n ∷ b → ElseFrom first sofar (e ∷ ts) r s → e.kind ≡ kind.Word word.Else → n.kind ≡ kind.Word word.If → NoElse r → Then (Tok (kind.Word word.If)) (λ i. Then SpellsArm (λ a. ElseFrom first (sofar ++ a ∷ []))) ts r s
+another_at : (first e : Token) (sofar : List Arm) (n : Token) {ts b r : List Token} {s : Stmt} → ts ≡ n ∷ b → ElseFrom first sofar (e ∷ ts) r s → e.kind ≡ kind.Word word.Else
+    → n.kind ≡ kind.Word word.If → NoElse r → Then (Tok (kind.Word word.If)) (λ i. Then SpellsArm (λ a. ElseFrom first (sofar ++ a ∷ []))) ts r s
 another_at first e sofar n {ts = ts} {b = b} {r = r} {s = s} at d k i h =
     let to : List Token → Type 0 = λ x. Then (Tok (kind.Word word.If)) (λ i. Then SpellsArm (λ a. ElseFrom first (sofar ++ a ∷ []))) x r s in
     let there : Then (Tok (kind.Word word.If)) (λ i. Then SpellsArm (λ a. ElseFrom first (sofar ++ a ∷ []))) (n ∷ b) r s = another_back first sofar d.2 d.3 (ap (λ x. e ∷ x) at) k i h in
     subst to (sym at) there
 
-pub another_next : (first e : Token) (sofar : List Arm) (tokens rest : List Token) (n : Token) (inner : List Token) → IsEnded tokens → tokens ≡ e ∷ rest → e.kind ≡ kind.Word word.Else → IsEnded rest → rest ≡ n ∷ inner → n.kind ≡ kind.Word word.If → Passes (Then SpellsArm (λ a. ElseFrom first (sofar ++ a ∷ []))) (ElseFrom first sofar) NoElse inner tokens
+pub another_next : (first e : Token) (sofar : List Arm) (tokens rest : List Token) (n : Token) (inner : List Token) → IsEnded tokens → tokens ≡ e ∷ rest → e.kind ≡ kind.Word word.Else → IsEnded rest
+    → rest ≡ n ∷ inner → n.kind ≡ kind.Word word.If → Passes (Then SpellsArm (λ a. ElseFrom first (sofar ++ a ∷ []))) (ElseFrom first sofar) NoElse inner tokens
 another_next first e sofar tokens rest n inner ended split k ended' split' i =
-    passes_through (then_passes (tok_follows (kind.Word word.If) NoElse (λ i. completes_then some_arm (λ a. (more_arms first sofar).completes a))) rest inner n (tok_found (token_found (kind.Word word.If) rest n inner ended' split' i (λ h. cc))))
+    passes_through (then_passes (tok_follows (kind.Word word.If) NoElse (λ i. completes_then some_arm (λ a. (more_arms first sofar).completes a))) rest inner n
+    (tok_found (token_found (kind.Word word.If) rest n inner ended' split' i (λ h. cc))))
     (passes_through (narrowed (Then (Tok (kind.Word word.If)) (λ i. Then SpellsArm (λ a. ElseFrom first (sofar ++ a ∷ [])))) (behind e (ElseFrom first sofar)) NoElse rest n inner split'
     (λ ts r s d. another_there first e sofar k d) (λ ts r b s at d h. another_at first e sofar n at d k i h))
     (passes_behind (ElseFrom first sofar) NoElse e rest tokens split))
 
 -- behind an `else` that no `if` follows
-last_there : (first e : Token) (sofar : List Arm) {ts r : List Token} {s : Stmt} → e.kind ≡ kind.Word word.Else → Then SpellsBlock (λ body. Ret (stmt first.at (form.If sofar (Some body)))) ts r s → ElseFrom first sofar (e ∷ ts) r s
+last_there : (first e : Token) (sofar : List Arm) {ts r : List Token} {s : Stmt} → e.kind ≡ kind.Word word.Else → Then SpellsBlock (λ body. Ret (stmt first.at (form.If sofar (Some body)))) ts r s
+    → ElseFrom first sofar (e ∷ ts) r s
 last_there first e sofar {ts = ts} k (seq {part = body} d h) =
-    ends_ret (λ y t. ElseFrom first sofar (e ∷ ts) y t) (stmt first.at (form.If sofar (Some body))) h ([], Some body, else_block k d, ap (λ x. stmt first.at (form.If x (Some body))) (sym (append-nil sofar)))
+    ends_ret (λ y t. ElseFrom first sofar (e ∷ ts) y t) (stmt first.at (form.If sofar (Some body))) h
+    ([], Some body, else_block k d, ap (λ x. stmt first.at (form.If x (Some body))) (sym (append-nil sofar)))
 
-last_back : (first : Token) (sofar : List Arm) {e : Token} {all ts r : List Token} {arms : List Arm} {last : Option (List Stmt)} {s : Stmt} → SpellsElse all r arms last → s ≡ stmt first.at (form.If (sofar ++ arms) last) → all ≡ e ∷ ts → e.kind ≡ kind.Word word.Else → BeginsOtherThan (kind.Word word.If) ts → NoElse r → Then SpellsBlock (λ body. Ret (stmt first.at (form.If sofar (Some body)))) ts r s
+last_back : (first : Token) (sofar : List Arm) {e : Token} {all ts r : List Token} {arms : List Arm} {last : Option (List Stmt)} {s : Stmt} → SpellsElse all r arms last
+    → s ≡ stmt first.at (form.If (sofar ++ arms) last) → all ≡ e ∷ ts → e.kind ≡ kind.Word word.Else → BeginsOtherThan (kind.Word word.If) ts → NoElse r
+    → Then SpellsBlock (λ body. Ret (stmt first.at (form.If sofar (Some body)))) ts r s
 last_back first sofar {r = r} no_else is all k other h = absurd (begins_clash r h all k)
 last_back first sofar {ts = ts} (else_if {two = two} {tokens = w} k' i' d m) is all k other h = let same : ts ≡ two ∷ w = cc in absurd (begins_clash ts other same i')
 last_back first sofar {ts = ts} {r = r} {s = s} (else_block {tokens = w} {body = body} k' d) is all k other h =
@@ -316,9 +350,11 @@ last_back first sofar {ts = ts} {r = r} {s = s} (else_block {tokens = w} {body =
     let known : Stmt → Type 0 = λ x. Then SpellsBlock (λ b. Ret (stmt first.at (form.If sofar (Some b)))) ts r x in
     subst known (sym (is ∙ ap (λ x. stmt first.at (form.If x (Some body))) (append-nil sofar))) (seq (subst at same d) ret)
 
-pub last_next : (first e : Token) (sofar : List Arm) (tokens rest : List Token) (n : Token) (inner : List Token) → tokens ≡ e ∷ rest → e.kind ≡ kind.Word word.Else → rest ≡ n ∷ inner → (n.kind ≡ kind.Word word.If → ⊥) → Passes (Then SpellsBlock (λ body. Ret (stmt first.at (form.If sofar (Some body))))) (ElseFrom first sofar) NoElse rest tokens
+pub last_next : (first e : Token) (sofar : List Arm) (tokens rest : List Token) (n : Token) (inner : List Token) → tokens ≡ e ∷ rest → e.kind ≡ kind.Word word.Else → rest ≡ n ∷ inner
+    → (n.kind ≡ kind.Word word.If → ⊥) → Passes (Then SpellsBlock (λ body. Ret (stmt first.at (form.If sofar (Some body))))) (ElseFrom first sofar) NoElse rest tokens
 last_next first e sofar tokens rest n inner split k split' other =
-    passes_through (narrowed_by (BeginsOtherThan (kind.Word word.If)) (λ token xs ys h. h) (Then SpellsBlock (λ body. Ret (stmt first.at (form.If sofar (Some body))))) (behind e (ElseFrom first sofar)) NoElse rest (begins_other (kind.Word word.If) rest n inner split' other)
+    passes_through (narrowed_by (BeginsOtherThan (kind.Word word.If)) (λ token xs ys h. h) (Then SpellsBlock (λ body. Ret (stmt first.at (form.If sofar (Some body)))))
+    (behind e (ElseFrom first sofar)) NoElse rest (begins_other (kind.Word word.If) rest n inner split' other)
     (λ ts r s d. last_there first e sofar k d) (λ ts r s h d e'. last_back first sofar d.2 d.3 refl k h e'))
     (passes_behind (ElseFrom first sofar) NoElse e rest tokens split)
 
@@ -352,8 +388,10 @@ two_once (seq a (seq b (seq {part = one} n (seq c (seq d (seq {part = two} i (se
     ret_same h h' (tok_same e e' second.0) (ap (λ v. both v two) first.1 ∙ ap (λ v. both one' v) second.1)
 
 some_names : Completes TwoNames
-some_names = completes_then (completes_tok round) (λ opening. completes_then (completes_tok (kind.Word word.Int)) (λ int. completes_then completes_name (λ one. completes_then (completes_tok (kind.Mark mark.Comma)) (λ comma.
-    completes_then (completes_tok (kind.Word word.Int)) (λ int. completes_then completes_name (λ two. completes_then (completes_tok (kind.Mark mark.CloseParen)) (λ closing. completes_ret (both one two))))))))
+some_names = completes_then (completes_tok round) (λ opening. completes_then (completes_tok (kind.Word word.Int))
+    (λ int. completes_then completes_name (λ one. completes_then (completes_tok (kind.Mark mark.Comma)) (λ comma.
+    completes_then (completes_tok (kind.Word word.Int)) (λ int. completes_then completes_name
+    (λ two. completes_then (completes_tok (kind.Mark mark.CloseParen)) (λ closing. completes_ret (both one two))))))))
 
 pub names_follow : (f : Name × Name → List Stmt → RoutineBlock) → Follows TwoNames stops_anywhere (λ names. Then SpellsBlock (λ body. Ret (f names body))) stops_anywhere
 names_follow f = record {
@@ -370,7 +408,8 @@ pub width_closing : (first : Token) (width : Expr) → Follows (Tok (kind.Mark m
 width_closing first width = tok_follows (kind.Mark mark.CloseBracket) stops_anywhere (λ closing. named_completes (routine_as first width))
 
 pub width_follows : (first : Token) → Follows (SpellsExpr whole) (Stops whole) (λ width. Then (Tok (kind.Mark mark.CloseBracket)) (λ closing. NamedBody first width)) stops_anywhere
-width_follows first = expr_before mark.CloseBracket stops_anywhere refl (λ h. cc) (λ h. cc) (λ width. completes_then (completes_tok (kind.Mark mark.CloseBracket)) (λ closing. named_completes (routine_as first width)))
+width_follows first = expr_before mark.CloseBracket stops_anywhere refl (λ h. cc) (λ h. cc)
+    (λ width. completes_then (completes_tok (kind.Mark mark.CloseBracket)) (λ closing. named_completes (routine_as first width)))
 
 width_completes : (first : Token) → Completes (WidthRest first)
 width_completes first = completes_then some_expr (λ width. completes_then (completes_tok (kind.Mark mark.CloseBracket)) (λ closing. named_completes (routine_as first width)))
@@ -381,10 +420,14 @@ routine_opening first = tok_follows (kind.Mark mark.OpenBracket) stops_anywhere 
 pub routine_word : Follows (Tok (kind.Word word.Routine)) stops_anywhere (λ first. Then (Tok (kind.Mark mark.OpenBracket)) (λ opening. WidthRest first)) stops_anywhere
 routine_word = tok_follows (kind.Word word.Routine) stops_anywhere (λ first. completes_then (completes_tok (kind.Mark mark.OpenBracket)) (λ opening. width_completes first))
 
-names_there : (first bracket closing : Token) (width : Expr) (body : List Stmt) {w m z r : List Token} {names : Name × Name} → first.kind ≡ kind.Word word.Routine → bracket.kind ≡ kind.Mark mark.OpenBracket → SpellsExpr whole w (closing ∷ m) width → closing.kind ≡ kind.Mark mark.CloseBracket → TwoNames m z names → SpellsBlock z r body → SpellsRoutine (first ∷ bracket ∷ w) r (routine_as first width names body)
-names_there first bracket closing width body {w = w} {r = r} k o d c (seq (tok a) (seq (tok p) (seq {part = one} (name_tok n) (seq (tok m) (seq (tok j) (seq {part = two} (name_tok i) (seq (tok q) e))))))) b = closed e (λ v. routine k o d c a p n m j i q v) b
+names_there : (first bracket closing : Token) (width : Expr) (body : List Stmt) {w m z r : List Token} {names : Name × Name} → first.kind ≡ kind.Word word.Routine
+    → bracket.kind ≡ kind.Mark mark.OpenBracket → SpellsExpr whole w (closing ∷ m) width → closing.kind ≡ kind.Mark mark.CloseBracket → TwoNames m z names → SpellsBlock z r body
+    → SpellsRoutine (first ∷ bracket ∷ w) r (routine_as first width names body)
+names_there first bracket closing width body {w = w} {r = r} k o d c (seq (tok a) (seq (tok p)
+    (seq {part = one} (name_tok n) (seq (tok m) (seq (tok j) (seq {part = two} (name_tok i) (seq (tok q) e))))))) b = closed e (λ v. routine k o d c a p n m j i q v) b
   where
-    closed : {x y : List Token} {names : Name × Name} → Ret (both one two) x y names → (SpellsBlock x r body → SpellsRoutine (first ∷ bracket ∷ w) r (routine_as first width (both one two) body)) → SpellsBlock y r body → SpellsRoutine (first ∷ bracket ∷ w) r (routine_as first width names body)
+    closed : {x y : List Token} {names : Name × Name} → Ret (both one two) x y names → (SpellsBlock x r body → SpellsRoutine (first ∷ bracket ∷ w) r (routine_as first width (both one two) body))
+        → SpellsBlock y r body → SpellsRoutine (first ∷ bracket ∷ w) r (routine_as first width names body)
     closed ret f v = f v
 
 routine_there : {ts r : List Token} {x : RoutineBlock} → RoutineChain ts r x → SpellsRoutine ts r x
@@ -392,7 +435,8 @@ routine_there {r = r} (seq {part = first} (tok k) (seq {middle = w} {part = brac
     ends_ret (λ y u. SpellsRoutine (first ∷ bracket ∷ w) y u) (routine_as first width names body) e (names_there first bracket closing width body k o d c t b)
 
 routine_back : {ts r : List Token} {x : RoutineBlock} → SpellsRoutine ts r x → RoutineChain ts r x
-routine_back (routine k o d c p i a m j b q body) = seq (tok k) (seq (tok o) (seq d (seq (tok c) (seq (seq (tok p) (seq (tok i) (seq (name_tok a) (seq (tok m) (seq (tok j) (seq (name_tok b) (seq (tok q) ret))))))) (seq body ret)))))
+routine_back (routine k o d c p i a m j b q body) = seq (tok k) (seq (tok o) (seq d (seq (tok c)
+    (seq (seq (tok p) (seq (tok i) (seq (name_tok a) (seq (tok m) (seq (tok j) (seq (name_tok b) (seq (tok q) ret))))))) (seq body ret)))))
 
 pub routine_same : (tokens : List Token) → Passes RoutineChain SpellsRoutine stops_anywhere tokens tokens
 routine_same tokens = passes_same RoutineChain SpellsRoutine stops_anywhere tokens (record { there = λ ts r x d. routine_there d; back = λ ts r x d h. routine_back d })
@@ -407,16 +451,20 @@ each_routines : {ts r : List Token} {rs : List RoutineBlock} → Each SpellsRout
 each_routines stop = no_routine
 each_routines (again d m) = one_routine d (each_routines m)
 
-routine_once : (tokens middle middle' : List Token) (x x' : RoutineBlock) → SpellsRoutine tokens middle x → SpellsRoutine tokens middle' x' → stops_anywhere middle → stops_anywhere middle' → (middle ≡ middle') × (x ≡ x')
+routine_once : (tokens middle middle' : List Token) (x x' : RoutineBlock) → SpellsRoutine tokens middle x → SpellsRoutine tokens middle' x' → stops_anywhere middle → stops_anywhere middle'
+    → (middle ≡ middle') × (x ≡ x')
 routine_once tokens middle middle' x x' d d' s s' = unique_routine d d' refl
 
-pub step_done : (sofar : List RoutineBlock) (tokens : List Token) (first : Token) (rest : List Token) → IsEnded tokens → tokens ≡ first ∷ rest → first.kind ≡ parend → Found (Until parend SpellsRoutine sofar) stops_anywhere tokens rest sofar
+pub step_done : (sofar : List RoutineBlock) (tokens : List Token) (first : Token) (rest : List Token) → IsEnded tokens → tokens ≡ first ∷ rest → first.kind ≡ parend
+    → Found (Until parend SpellsRoutine sofar) stops_anywhere tokens rest sofar
 step_done sofar tokens first rest ended split same = until_done parend SpellsRoutine stops_anywhere routine_once (λ _ _ _ _. tt) (λ _ _ _ _ _ _. tt) sofar tokens first rest ended split same (λ h. cc)
 
-pub step_err : (sofar : List RoutineBlock) (tokens : List Token) (e : ParseError) → BeginsOtherThan parend tokens → Fails SpellsRoutine stops_anywhere tokens e → Fails (Until parend SpellsRoutine sofar) stops_anywhere tokens e
+pub step_err : (sofar : List RoutineBlock) (tokens : List Token) (e : ParseError) → BeginsOtherThan parend tokens → Fails SpellsRoutine stops_anywhere tokens e
+    → Fails (Until parend SpellsRoutine sofar) stops_anywhere tokens e
 step_err = until_err parend SpellsRoutine stops_anywhere routine_once (λ _ _ _ _. tt) (λ _ _ _ _ _ _. tt)
 
-pub step_more : (sofar : List RoutineBlock) (tokens middle : List Token) (x : RoutineBlock) → BeginsOtherThan parend tokens → Found SpellsRoutine stops_anywhere tokens middle x → Passes (Until parend SpellsRoutine (sofar ++ x ∷ [])) (Until parend SpellsRoutine sofar) stops_anywhere middle tokens
+pub step_more : (sofar : List RoutineBlock) (tokens middle : List Token) (x : RoutineBlock) → BeginsOtherThan parend tokens → Found SpellsRoutine stops_anywhere tokens middle x
+    → Passes (Until parend SpellsRoutine (sofar ++ x ∷ [])) (Until parend SpellsRoutine sofar) stops_anywhere middle tokens
 step_more = until_more parend SpellsRoutine stops_anywhere routine_once (λ _ _ _ _. tt) (λ _ _ _ _ _ _. tt)
 
 pub first_routine : Follows SpellsRoutine stops_anywhere (λ one. Until parend SpellsRoutine (one ∷ [])) stops_anywhere
@@ -441,7 +489,8 @@ step_follows f = record {
   completes = λ rs. ends_as (f rs);
 }
 
-step_ends : (first : Token) (one : RoutineBlock) (rs : List RoutineBlock) (last : Token) {ts a m r : List Token} {s : Stmt} → first.kind ≡ kind.Word word.Parbegin → SpellsRoutine ts a one → SpellsRoutines a (last ∷ m) rs → last.kind ≡ parend → EndsAs (stmt first.at (form.Par (one ∷ rs))) m r s → SpellsStmt (first ∷ ts) r s
+step_ends : (first : Token) (one : RoutineBlock) (rs : List RoutineBlock) (last : Token) {ts a m r : List Token} {s : Stmt} → first.kind ≡ kind.Word word.Parbegin → SpellsRoutine ts a one
+    → SpellsRoutines a (last ∷ m) rs → last.kind ≡ parend → EndsAs (stmt first.at (form.Par (one ∷ rs))) m r s → SpellsStmt (first ∷ ts) r s
 step_ends first one rs last w d u l (seq (tok k) ret) = parallel w d u l k
 
 step_there : (first : Token) {ts r : List Token} {s : Stmt} → first.kind ≡ kind.Word word.Parbegin → ParRest first ts r s → SpellsStmt (first ∷ ts) r s

@@ -22,17 +22,23 @@ use Rattle.csl_tree.specs.declared.program.BinaryOp.TheVariants as binary_op
 use Rattle.expression_parser.specs.declared.ParseError.{ParseError}
 use Rattle.csl_grammar.specs.Expressions.{SpellsExpr, chain, number, ends, whole, level_of, mark_of, expr, place, call, SpellsArguments, nothing as no_arguments}
 use Rattle.csl_grammar.specs.Stops.{IsEnded, BeginsOtherThan, Stops, operator_of}
-use Rattle.csl_grammar.specs.Programs.{IsMark, IsWord, type_word, stmt, SpellsPlace, bare, indexed, SpellsCall, called, SpellsDecl, declare, SpellsChange, set, add_to, SpellsItem, text, value, ListOf, nothing, SpellsStmt, declared, changed, calls, block, if_else, while_loop, for_loop, break_out, goes_on, returns, returns_value, asserts, prints, parallel, SpellsStart, declares, changes}
+use Rattle.csl_grammar.specs.Programs.{IsMark, IsWord, type_word, stmt, SpellsPlace, bare, indexed, SpellsCall, called, SpellsDecl, declare, SpellsChange, set, add_to, SpellsItem, text, value, ListOf}
+use Rattle.csl_grammar.specs.Programs.{nothing, SpellsStmt, declared, changed, calls, block, if_else, while_loop, for_loop, break_out, goes_on, returns, returns_value, asserts, prints, parallel}
+use Rattle.csl_grammar.specs.Programs.{SpellsStart, declares, changes}
 use Rattle.csl_grammar.proofs.Unique.{unique, unique_arguments, stops_at, operator_of-mark_of}
-use Rattle.csl_grammar.proofs.UniqueParts.{type_word-same, no_text, unique_item, unique_items, unique_decl, unique_change, no_item, no_expression, semicolon_begins_none, stops_semicolon, stops_paren, stops_bracket, stops_comma}
+use Rattle.csl_grammar.proofs.UniqueParts.{type_word-same, no_text, unique_item, unique_items, unique_decl, unique_change, no_item, no_expression, semicolon_begins_none, stops_semicolon, stops_paren}
+use Rattle.csl_grammar.proofs.UniqueParts.{stops_bracket, stops_comma}
 use Rattle.csl_grammar.proofs.UniqueProgram.{form_is, form_at, unique_start, by_word, by_name, type_form, form_of_change, form_of_call}
-use Rattle.expression_parser.specs.Reading.{Found, Refused, Fails, Answers, IsToken, Tok, tok, NameTok, name_tok, Ret, ret, Then, seq, Either, this, that, ListUntil, MoreUntil, SpellsClosed, at_mark, behind, stops_anywhere}
+use Rattle.expression_parser.specs.Reading.{Found, Refused, Fails, Answers, IsToken, Tok, tok, NameTok, name_tok, Ret, ret, Then, seq, Either, this, that, ListUntil, MoreUntil, SpellsClosed, at_mark}
+use Rattle.expression_parser.specs.Reading.{behind, stops_anywhere}
 use Rattle.statement_parser.specs.Statements.{NoElse, EndsAs, DeclRest, Changing, IndexedRest, ChangeRest, CallRest, ReturnRest, AssertRest, PrintRest, SecondName, TwoNames, both}
 use Rattle.expression_parser.proofs.Sequence.{Passes, passes_same, passes_behind, passes_through, passed, passed_error, refused_here}
 use Rattle.expression_parser.proofs.Rules.{stops_same, unique_closed}
 use Rattle.expression_parser.proofs.Steps.{operator_kind}
 use Rattle.expression_parser.proofs.Single.{some_token, ended_behind, token_found}
-use Rattle.expression_parser.proofs.Then.{Completes, Follows, completes_ret, completes_tok, completes_name, completes_then, completes_this, completes_list, tok_follows, name_follows, then_first, then_second, then_found, then_passes, tok_found, tok_err, ret_found, narrowed, narrowed_by, passes_this, passes_that, begins_other, no_name, list_nothing, list_err, list_begun, more_err, more_step, last_err, last_ok}
+use Rattle.expression_parser.proofs.Then.{Completes, Follows, completes_ret, completes_tok, completes_name, completes_then, completes_this, completes_list, tok_follows, name_follows, then_first}
+use Rattle.expression_parser.proofs.Then.{then_second, then_found, then_passes, tok_found, tok_err, ret_found, narrowed, narrowed_by, passes_this, passes_that, begins_other, no_name, list_nothing}
+use Rattle.expression_parser.proofs.Then.{list_err, list_begun, more_err, more_step, last_err, last_ok}
 
 -- ---- what completes
 
@@ -51,11 +57,13 @@ value_as f = completes_then some_expr (λ v. completes_ret (f v))
 
 -- ---- an expression and what follows it
 
-ahead_mark : {T : Type 0} {m : Mark} {second : Token → List Token → List Token → T → Type 0} {middle rest : List Token} {tree : T} → operator_of m ≡ None → (m ≡ mark.OpenBracket → ⊥) → (m ≡ mark.OpenParen → ⊥) → Then (Tok (kind.Mark m)) second middle rest tree → Stops whole middle
+ahead_mark : {T : Type 0} {m : Mark} {second : Token → List Token → List Token → T → Type 0} {middle rest : List Token} {tree : T} → operator_of m ≡ None → (m ≡ mark.OpenBracket → ⊥)
+    → (m ≡ mark.OpenParen → ⊥) → Then (Tok (kind.Mark m)) second middle rest tree → Stops whole middle
 ahead_mark none bracket round (seq (tok k) d) = stops_at k none bracket round
 
 -- an expression in front of a mark that is no operator and no bracket
-pub expr_before : {T : Type 0} (m : Mark) {second : Expr → Token → List Token → List Token → T → Type 0} (behind_it : List Token → Type 0) → operator_of m ≡ None → (m ≡ mark.OpenBracket → ⊥) → (m ≡ mark.OpenParen → ⊥) → ((e : Expr) → Completes (Then (Tok (kind.Mark m)) (second e))) → Follows (SpellsExpr whole) (Stops whole) (λ e. Then (Tok (kind.Mark m)) (second e)) behind_it
+pub expr_before : {T : Type 0} (m : Mark) {second : Expr → Token → List Token → List Token → T → Type 0} (behind_it : List Token → Type 0) → operator_of m ≡ None → (m ≡ mark.OpenBracket → ⊥)
+    → (m ≡ mark.OpenParen → ⊥) → ((e : Expr) → Completes (Then (Tok (kind.Mark m)) (second e))) → Follows (SpellsExpr whole) (Stops whole) (λ e. Then (Tok (kind.Mark m)) (second e)) behind_it
 expr_before m behind_it none bracket round completes = record {
   unique = λ tokens middle middle' e e' d d' s s'. unique d d' refl s s';
   same_first = stops_same whole;
@@ -84,7 +92,8 @@ expr_semicolon f behind_it = expr_before mark.Semicolon behind_it refl (λ h. cc
 
 -- ---- locals
 
-pub decl_name : (first : Token) (t : Ty) → Follows NameTok stops_anywhere (λ name. Then (Tok (kind.Mark mark.Assign)) (λ equals. Then (SpellsExpr whole) (λ v. Ret (stmt first.at (form.Declare t name v))))) (Stops whole)
+pub decl_name : (first : Token) (t : Ty) → Follows NameTok stops_anywhere (λ name. Then (Tok (kind.Mark mark.Assign))
+    (λ equals. Then (SpellsExpr whole) (λ v. Ret (stmt first.at (form.Declare t name v))))) (Stops whole)
 decl_name first t = name_follows (Stops whole) (λ name. completes_then (completes_tok (kind.Mark mark.Assign)) (λ equals. value_as (λ v. stmt first.at (form.Declare t name v))))
 
 pub mark_value : (m : Mark) (f : Expr → Stmt) → Follows (Tok (kind.Mark m)) stops_anywhere (λ sign. Then (SpellsExpr whole) (λ v. Ret (f v))) (Stops whole)
@@ -107,55 +116,71 @@ decl_same first t tokens w = passes_same (DeclRest first t) (behind first Spells
 
 -- ---- changes
 
-pub set_next : (first : Token) (p : Place) (tokens : List Token) (sign : Token) (rest : List Token) → IsEnded tokens → tokens ≡ sign ∷ rest → sign.kind ≡ kind.Mark mark.Assign → Passes (Then (SpellsExpr whole) (λ v. Ret (stmt first.at (form.Set p v)))) (Changing first p) (Stops whole) rest tokens
+pub set_next : (first : Token) (p : Place) (tokens : List Token) (sign : Token) (rest : List Token) → IsEnded tokens → tokens ≡ sign ∷ rest → sign.kind ≡ kind.Mark mark.Assign
+    → Passes (Then (SpellsExpr whole) (λ v. Ret (stmt first.at (form.Set p v)))) (Changing first p) (Stops whole) rest tokens
 set_next first p tokens sign rest ended split k =
-    passes_through (then_passes (mark_value mark.Assign (λ v. stmt first.at (form.Set p v))) tokens rest sign (tok_found (token_found (kind.Mark mark.Assign) tokens sign rest ended split k (λ h. cc))))
+    passes_through (then_passes (mark_value mark.Assign (λ v. stmt first.at (form.Set p v))) tokens rest sign
+    (tok_found (token_found (kind.Mark mark.Assign) tokens sign rest ended split k (λ h. cc))))
     (passes_this _ (kind.Mark mark.AddAssign) _ (Stops whole) tokens (begins_other (kind.Mark mark.AddAssign) tokens sign rest split (λ h. cc)))
 
-pub add_next : (first : Token) (p : Place) (tokens : List Token) (sign : Token) (rest : List Token) → IsEnded tokens → tokens ≡ sign ∷ rest → sign.kind ≡ kind.Mark mark.AddAssign → Passes (Then (SpellsExpr whole) (λ v. Ret (stmt first.at (form.AddTo p v)))) (Changing first p) (Stops whole) rest tokens
+pub add_next : (first : Token) (p : Place) (tokens : List Token) (sign : Token) (rest : List Token) → IsEnded tokens → tokens ≡ sign ∷ rest → sign.kind ≡ kind.Mark mark.AddAssign
+    → Passes (Then (SpellsExpr whole) (λ v. Ret (stmt first.at (form.AddTo p v)))) (Changing first p) (Stops whole) rest tokens
 add_next first p tokens sign rest ended split k =
-    passes_through (then_passes (mark_value mark.AddAssign (λ v. stmt first.at (form.AddTo p v))) tokens rest sign (tok_found (token_found (kind.Mark mark.AddAssign) tokens sign rest ended split k (λ h. cc))))
+    passes_through (then_passes (mark_value mark.AddAssign (λ v. stmt first.at (form.AddTo p v))) tokens rest sign
+    (tok_found (token_found (kind.Mark mark.AddAssign) tokens sign rest ended split k (λ h. cc))))
     (passes_that (kind.Mark mark.Assign) _ _ (Stops whole) tokens (begins_other (kind.Mark mark.Assign) tokens sign rest split (λ h. cc)))
 
-no_change_here : (first : Token) {x : Token} (p : Place) {ts r : List Token} {s : Stmt} → Changing first p (x ∷ ts) r s → (x.kind ≡ kind.Mark mark.Assign → ⊥) → (x.kind ≡ kind.Mark mark.AddAssign → ⊥) → ⊥
+no_change_here : (first : Token) {x : Token} (p : Place) {ts r : List Token} {s : Stmt} → Changing first p (x ∷ ts) r s → (x.kind ≡ kind.Mark mark.Assign → ⊥) → (x.kind ≡ kind.Mark mark.AddAssign → ⊥)
+    → ⊥
 no_change_here first p (this (seq (tok k) d)) a b = a k
 no_change_here first p (that (seq (tok k) d)) a b = b k
 
 pub changing_completes : (first : Token) (p : Place) → Completes (Changing first p)
 changing_completes first p = completes_this (completes_then (completes_tok (kind.Mark mark.Assign)) (λ equals. value_as (λ v. stmt first.at (form.Set p v))))
 
-pub changing_refused : (first : Token) (p : Place) (tokens : List Token) (sign : Token) (rest : List Token) → tokens ≡ sign ∷ rest → (sign.kind ≡ kind.Mark mark.Assign → ⊥) → (sign.kind ≡ kind.Mark mark.AddAssign → ⊥) → Refused (Changing first p) (Stops whole) tokens sign.at
+pub changing_refused : (first : Token) (p : Place) (tokens : List Token) (sign : Token) (rest : List Token) → tokens ≡ sign ∷ rest → (sign.kind ≡ kind.Mark mark.Assign → ⊥)
+    → (sign.kind ≡ kind.Mark mark.AddAssign → ⊥) → Refused (Changing first p) (Stops whole) tokens sign.at
 changing_refused first p tokens sign rest split a b =
     let at : List Token → Type 0 = λ x. Refused (Changing first p) (Stops whole) x sign.at in
-    subst at (sym split) (refused_here (Changing first p) (Stops whole) sign rest (λ others r s d h. no_change_here first p d a b) (changing_completes first p).ending (changing_completes first p).finished (changing_completes first p).some)
+    subst at (sym split) (refused_here (Changing first p) (Stops whole) sign rest (λ others r s d h. no_change_here first p d a b) (changing_completes first p).ending
+    (changing_completes first p).finished (changing_completes first p).some)
 
-pub index_follows : (first : Token) (name : Name) → Follows (SpellsExpr whole) (Stops whole) (λ index. Then (Tok (kind.Mark mark.CloseBracket)) (λ closing. Changing first (place name (Some index)))) (Stops whole)
-index_follows first name = expr_before mark.CloseBracket (Stops whole) refl (λ h. cc) (λ h. cc) (λ index. completes_then (completes_tok (kind.Mark mark.CloseBracket)) (λ closing. changing_completes first (place name (Some index))))
+pub index_follows : (first : Token) (name : Name) → Follows (SpellsExpr whole) (Stops whole) (λ index. Then (Tok (kind.Mark mark.CloseBracket)) (λ closing. Changing first (place name (Some index))))
+    (Stops whole)
+index_follows first name = expr_before mark.CloseBracket (Stops whole) refl (λ h. cc) (λ h. cc)
+    (λ index. completes_then (completes_tok (kind.Mark mark.CloseBracket)) (λ closing. changing_completes first (place name (Some index))))
 
 pub index_closing : (first : Token) (name : Name) (index : Expr) → Follows (Tok (kind.Mark mark.CloseBracket)) stops_anywhere (λ closing. Changing first (place name (Some index))) (Stops whole)
 index_closing first name index = tok_follows (kind.Mark mark.CloseBracket) (Stops whole) (λ closing. changing_completes first (place name (Some index)))
 
 index_opening : (first : Token) (name : Name) → Follows (Tok (kind.Mark mark.OpenBracket)) stops_anywhere (λ opening. IndexedRest first name) (Stops whole)
-index_opening first name = tok_follows (kind.Mark mark.OpenBracket) (Stops whole) (λ opening. completes_then some_expr (λ index. completes_then (completes_tok (kind.Mark mark.CloseBracket)) (λ closing. changing_completes first (place name (Some index)))))
+index_opening first name = tok_follows (kind.Mark mark.OpenBracket) (Stops whole) (λ opening. completes_then some_expr
+    (λ index. completes_then (completes_tok (kind.Mark mark.CloseBracket)) (λ closing. changing_completes first (place name (Some index)))))
 
-indexed_back : (first : Token) {x : Token} (name : Name) {ts r : List Token} {s : Stmt} → x.kind ≡ kind.Mark mark.OpenBracket → ChangeRest first name (x ∷ ts) r s → Then (Tok (kind.Mark mark.OpenBracket)) (λ opening. IndexedRest first name) (x ∷ ts) r s
+indexed_back : (first : Token) {x : Token} (name : Name) {ts r : List Token} {s : Stmt} → x.kind ≡ kind.Mark mark.OpenBracket → ChangeRest first name (x ∷ ts) r s
+    → Then (Tok (kind.Mark mark.OpenBracket)) (λ opening. IndexedRest first name) (x ∷ ts) r s
 indexed_back first name k (this d) = absurd (no_change_here first (place name None) d (λ h. cc) (λ h. cc))
 indexed_back first name k (that d) = d
 
-indexed_back_at : (first : Token) {x : Token} (name : Name) {all ts r : List Token} {s : Stmt} → all ≡ x ∷ ts → x.kind ≡ kind.Mark mark.OpenBracket → ChangeRest first name all r s → Then (Tok (kind.Mark mark.OpenBracket)) (λ opening. IndexedRest first name) all r s
+indexed_back_at : (first : Token) {x : Token} (name : Name) {all ts r : List Token} {s : Stmt} → all ≡ x ∷ ts → x.kind ≡ kind.Mark mark.OpenBracket → ChangeRest first name all r s
+    → Then (Tok (kind.Mark mark.OpenBracket)) (λ opening. IndexedRest first name) all r s
 indexed_back_at first {x = x} name {ts = ts} {r = r} {s = s} e k d =
     let from : List Token → Type 0 = λ y. ChangeRest first name y r s in
     let to : List Token → Type 0 = λ y. Then (Tok (kind.Mark mark.OpenBracket)) (λ opening. IndexedRest first name) y r s in
     subst to (sym e) (indexed_back first name k (subst from e d))
 
-pub indexed_next : (first : Token) (name : Name) (tokens : List Token) (next : Token) (rest : List Token) → IsEnded tokens → tokens ≡ next ∷ rest → next.kind ≡ kind.Mark mark.OpenBracket → Passes (IndexedRest first name) (ChangeRest first name) (Stops whole) rest tokens
+pub indexed_next : (first : Token) (name : Name) (tokens : List Token) (next : Token) (rest : List Token) → IsEnded tokens → tokens ≡ next ∷ rest → next.kind ≡ kind.Mark mark.OpenBracket
+    → Passes (IndexedRest first name) (ChangeRest first name) (Stops whole) rest tokens
 indexed_next first name tokens next rest ended split k =
     passes_through (then_passes (index_opening first name) tokens rest next (tok_found (token_found (kind.Mark mark.OpenBracket) tokens next rest ended split k (λ h. cc))))
-    (narrowed (Then (Tok (kind.Mark mark.OpenBracket)) (λ opening. IndexedRest first name)) (ChangeRest first name) (Stops whole) tokens next rest split (λ ts r s d. that d) (λ ts r b s e d h. indexed_back_at first name e k d))
+    (narrowed (Then (Tok (kind.Mark mark.OpenBracket)) (λ opening. IndexedRest first name)) (ChangeRest first name) (Stops whole) tokens next rest split (λ ts r s d. that d)
+    (λ ts r b s e d h. indexed_back_at first name e k d))
 
-pub plain_next : (first : Token) (name : Name) (tokens : List Token) (next : Token) (rest : List Token) → tokens ≡ next ∷ rest → (next.kind ≡ kind.Mark mark.OpenBracket → ⊥) → Passes (Changing first (place name None)) (ChangeRest first name) (Stops whole) tokens tokens
+pub plain_next : (first : Token) (name : Name) (tokens : List Token) (next : Token) (rest : List Token) → tokens ≡ next ∷ rest → (next.kind ≡ kind.Mark mark.OpenBracket → ⊥)
+    → Passes (Changing first (place name None)) (ChangeRest first name) (Stops whole) tokens tokens
 plain_next first name tokens next rest split other =
-    passes_this (Changing first (place name None)) (kind.Mark mark.OpenBracket) (λ opening. IndexedRest first name) (Stops whole) tokens (begins_other (kind.Mark mark.OpenBracket) tokens next rest split other)
+    passes_this (Changing first (place name None)) (kind.Mark mark.OpenBracket) (λ opening. IndexedRest first name) (Stops whole) tokens
+    (begins_other (kind.Mark mark.OpenBracket) tokens next rest split other)
 
 changing_there : (first : Token) (p : Place) {ts mid r : List Token} {s : Stmt} → SpellsPlace (first ∷ ts) mid p → Changing first p mid r s → SpellsChange (first ∷ ts) r s
 changing_there first p pl (this (seq (tok a) (seq v ret))) = set pl a v
@@ -169,7 +194,8 @@ named_alike : {a b : Name} {k : TokenKind} → k ≡ kind.Named a → k ≡ kind
 named_alike e f = cc
 
 -- what a place and a change behind it are, behind the name
-place_back : (first : Token) (name : Name) {ts mid r : List Token} {p : Place} {s : Stmt} → first.kind ≡ kind.Named name → SpellsPlace (first ∷ ts) mid p → Changing first p mid r s → ChangeRest first name ts r s
+place_back : (first : Token) (name : Name) {ts mid r : List Token} {p : Place} {s : Stmt} → first.kind ≡ kind.Named name → SpellsPlace (first ∷ ts) mid p → Changing first p mid r s
+    → ChangeRest first name ts r s
 place_back first name {r = r} {s = s} n (bare {rest = mid} {name = name'} n') d =
     let same : name' ≡ name = named_alike n' n in
     let at : Name → Type 0 = λ x. Changing first (place x None) mid r s in
@@ -184,11 +210,13 @@ change_back first name n (set p a v) = place_back first name n p (this (seq (tok
 change_back first name n (add_to p a v) = place_back first name n p (that (seq (tok a) (seq v ret)))
 
 pub change_same : (first : Token) (name : Name) (tokens : List Token) → first.kind ≡ kind.Named name → Passes (ChangeRest first name) (behind first SpellsChange) (Stops whole) tokens tokens
-change_same first name tokens n = passes_same (ChangeRest first name) (behind first SpellsChange) (Stops whole) tokens (record { there = λ ts r s d. change_there first name n d; back = λ ts r s d h. change_back first name n d })
+change_same first name tokens n = passes_same (ChangeRest first name) (behind first SpellsChange) (Stops whole) tokens
+    (record { there = λ ts r s d. change_there first name n d; back = λ ts r s d h. change_back first name n d })
 
 -- ---- what stands behind a statement
 
-pub no_else_found : (s : Stmt) (tokens : List Token) (next : Token) (rest : List Token) → IsEnded tokens → tokens ≡ next ∷ rest → (next.kind ≡ kind.Word word.Else → ⊥) → Found (Ret s) NoElse tokens tokens s
+pub no_else_found : (s : Stmt) (tokens : List Token) (next : Token) (rest : List Token) → IsEnded tokens → tokens ≡ next ∷ rest → (next.kind ≡ kind.Word word.Else → ⊥)
+    → Found (Ret s) NoElse tokens tokens s
 no_else_found s tokens next rest ended split other = ret_found s NoElse tokens (begins_other (kind.Word word.Else) tokens next rest split other) ended
 
 ret_else : {s tree : Stmt} {next : Token} {others r : List Token} → Ret s (next ∷ others) r tree → next.kind ≡ kind.Word word.Else → NoElse r → ⊥
@@ -242,47 +270,60 @@ local_back first t w (declared d k) = seq (decl_back w d) (seq (tok k) ret)
 local_back first t {ts = ts} w d = absurd (omega (arith, form_is d, by_word first ts w ∙ type_form t))
 
 pub local_same : (first : Token) (t : Ty) (tokens : List Token) → first.kind ≡ kind.Word (type_word t) → Passes (Then (DeclRest first t) EndsAs) (behind first SpellsStmt) NoElse tokens tokens
-local_same first t tokens w = passes_same (Then (DeclRest first t) EndsAs) (behind first SpellsStmt) NoElse tokens (record { there = λ ts r s d. local_there first t w d; back = λ ts r s d h. local_back first t w d })
+local_same first t tokens w = passes_same (Then (DeclRest first t) EndsAs) (behind first SpellsStmt) NoElse tokens
+    (record { there = λ ts r s d. local_there first t w d; back = λ ts r s d h. local_back first t w d })
 
 changed_there : (first : Token) (name : Name) {ts r : List Token} {s : Stmt} → first.kind ≡ kind.Named name → Then (ChangeRest first name) EndsAs ts r s → SpellsStmt (first ∷ ts) r s
 changed_there first name n (seq d (seq (tok k) ret)) = changed (change_there first name n d) k
 
-changed_back : (first : Token) (name : Name) {ts r : List Token} {s : Stmt} → first.kind ≡ kind.Named name → BeginsOtherThan (kind.Mark mark.OpenParen) ts → SpellsStmt (first ∷ ts) r s → Then (ChangeRest first name) EndsAs ts r s
+changed_back : (first : Token) (name : Name) {ts r : List Token} {s : Stmt} → first.kind ≡ kind.Named name → BeginsOtherThan (kind.Mark mark.OpenParen) ts → SpellsStmt (first ∷ ts) r s
+    → Then (ChangeRest first name) EndsAs ts r s
 changed_back first name n other (changed d k) = seq (change_back first name n d) (seq (tok k) ret)
 changed_back first name {ts = ts} n other d = absurd (omega (arith, form_is d, by_name first ts n ∙ form_of_change ts other))
 
-pub changed_next : (first : Token) (name : Name) (tokens : List Token) (next : Token) (rest : List Token) → first.kind ≡ kind.Named name → tokens ≡ next ∷ rest → (next.kind ≡ kind.Mark mark.OpenParen → ⊥) → Passes (Then (ChangeRest first name) EndsAs) (behind first SpellsStmt) NoElse tokens tokens
+pub changed_next : (first : Token) (name : Name) (tokens : List Token) (next : Token) (rest : List Token) → first.kind ≡ kind.Named name → tokens ≡ next ∷ rest
+    → (next.kind ≡ kind.Mark mark.OpenParen → ⊥) → Passes (Then (ChangeRest first name) EndsAs) (behind first SpellsStmt) NoElse tokens tokens
 changed_next first name tokens next rest n split other =
-    narrowed_by (BeginsOtherThan (kind.Mark mark.OpenParen)) (λ token xs ys h. h) (Then (ChangeRest first name) EndsAs) (behind first SpellsStmt) NoElse tokens (begins_other (kind.Mark mark.OpenParen) tokens next rest split other)
+    narrowed_by (BeginsOtherThan (kind.Mark mark.OpenParen)) (λ token xs ys h. h) (Then (ChangeRest first name) EndsAs) (behind first SpellsStmt) NoElse tokens
+    (begins_other (kind.Mark mark.OpenParen) tokens next rest split other)
     (λ ts r s d. changed_there first name n d) (λ ts r s h d e. changed_back first name n h d)
 
-called_ends : (first : Token) (name : Name) (args : List Expr) {ts m r : List Token} {s : Stmt} → SpellsCall (first ∷ ts) m (call name args) → EndsAs (stmt first.at (form.CallOf (call name args))) m r s → SpellsStmt (first ∷ ts) r s
+called_ends : (first : Token) (name : Name) (args : List Expr) {ts m r : List Token} {s : Stmt} → SpellsCall (first ∷ ts) m (call name args)
+    → EndsAs (stmt first.at (form.CallOf (call name args))) m r s → SpellsStmt (first ∷ ts) r s
 called_ends first name args c (seq (tok k) ret) = calls c k
 
-called_there : (first : Token) (name : Name) {ts r : List Token} {s : Stmt} → first.kind ≡ kind.Named name → Then (Tok (kind.Mark mark.OpenParen)) (λ opening. CallRest first name) ts r s → SpellsStmt (first ∷ ts) r s
+called_there : (first : Token) (name : Name) {ts r : List Token} {s : Stmt} → first.kind ≡ kind.Named name → Then (Tok (kind.Mark mark.OpenParen)) (λ opening. CallRest first name) ts r s
+    → SpellsStmt (first ∷ ts) r s
 called_there first name n (seq (tok o) (seq {part = args} d e)) = called_ends first name args (called n o d.1 d.2) e
 
-called_back : (first next : Token) (name : Name) {b r : List Token} {s : Stmt} → first.kind ≡ kind.Named name → next.kind ≡ kind.Mark mark.OpenParen → SpellsStmt (first ∷ next ∷ b) r s → Then (Tok (kind.Mark mark.OpenParen)) (λ opening. CallRest first name) (next ∷ b) r s
+called_back : (first next : Token) (name : Name) {b r : List Token} {s : Stmt} → first.kind ≡ kind.Named name → next.kind ≡ kind.Mark mark.OpenParen → SpellsStmt (first ∷ next ∷ b) r s
+    → Then (Tok (kind.Mark mark.OpenParen)) (λ opening. CallRest first name) (next ∷ b) r s
 called_back first next name {r = r} n o (calls (called {closing = z} {tokens = w} {name = name'} {args = args} n' o' d c) k) =
     let same : name' ≡ name = named_alike n' n in
     let at : Name → Type 0 = λ x. Then (Tok (kind.Mark mark.OpenParen)) (λ opening. CallRest first name) (next ∷ w) r (stmt first.at (form.CallOf (call x args))) in
     subst at (sym same) (seq (tok o) (seq (z, d, c) (seq (tok k) ret)))
 called_back first next name {b = b} n o d = absurd (omega (arith, form_is d, by_name first (next ∷ b) n ∙ form_of_call next b o))
 
-called_back_at : (first next : Token) (name : Name) {ts b r : List Token} {s : Stmt} → first.kind ≡ kind.Named name → next.kind ≡ kind.Mark mark.OpenParen → ts ≡ next ∷ b → SpellsStmt (first ∷ ts) r s → Then (Tok (kind.Mark mark.OpenParen)) (λ opening. CallRest first name) ts r s
+called_back_at : (first next : Token) (name : Name) {ts b r : List Token} {s : Stmt} → first.kind ≡ kind.Named name → next.kind ≡ kind.Mark mark.OpenParen → ts ≡ next ∷ b → SpellsStmt (first ∷ ts) r s
+    → Then (Tok (kind.Mark mark.OpenParen)) (λ opening. CallRest first name) ts r s
 called_back_at first next name {r = r} {s = s} n o e d =
     let from : List Token → Type 0 = λ y. SpellsStmt (first ∷ y) r s in
     let to : List Token → Type 0 = λ y. Then (Tok (kind.Mark mark.OpenParen)) (λ opening. CallRest first name) y r s in
     subst to (sym e) (called_back first next name n o (subst from e d))
 
-pub called_next : (first : Token) (name : Name) (tokens : List Token) (next : Token) (rest : List Token) → first.kind ≡ kind.Named name → IsEnded tokens → tokens ≡ next ∷ rest → next.kind ≡ kind.Mark mark.OpenParen → Passes (CallRest first name) (behind first SpellsStmt) NoElse rest tokens
+pub called_next : (first : Token) (name : Name) (tokens : List Token) (next : Token) (rest : List Token) → first.kind ≡ kind.Named name → IsEnded tokens → tokens ≡ next ∷ rest
+    → next.kind ≡ kind.Mark mark.OpenParen → Passes (CallRest first name) (behind first SpellsStmt) NoElse rest tokens
 called_next first name tokens next rest n ended split o =
-    passes_through (then_passes (tok_follows (kind.Mark mark.OpenParen) {second = λ opening. CallRest first name} NoElse (λ opening. completes_then some_args (λ args. ends_as (stmt first.at (form.CallOf (call name args)))))) tokens rest next (tok_found (token_found (kind.Mark mark.OpenParen) tokens next rest ended split o (λ h. cc))))
-    (narrowed (Then (Tok (kind.Mark mark.OpenParen)) (λ opening. CallRest first name)) (behind first SpellsStmt) NoElse tokens next rest split (λ ts r s d. called_there first name n d) (λ ts r b s e d h. called_back_at first next name n o e d))
+    passes_through (then_passes (tok_follows (kind.Mark mark.OpenParen) {second = λ opening. CallRest first name} NoElse
+    (λ opening. completes_then some_args (λ args. ends_as (stmt first.at (form.CallOf (call name args)))))) tokens rest next
+    (tok_found (token_found (kind.Mark mark.OpenParen) tokens next rest ended split o (λ h. cc))))
+    (narrowed (Then (Tok (kind.Mark mark.OpenParen)) (λ opening. CallRest first name)) (behind first SpellsStmt) NoElse tokens next rest split (λ ts r s d. called_there first name n d)
+    (λ ts r b s e d h. called_back_at first next name n o e d))
 
 -- ---- return
 
-no_value_first : (first : Token) {x : Token} {ts r : List Token} {s : Stmt} → x.kind ≡ kind.Mark mark.Semicolon → Then (SpellsExpr whole) (λ value. EndsAs (stmt first.at (form.Return (Some value)))) (x ∷ ts) r s → ⊥
+no_value_first : (first : Token) {x : Token} {ts r : List Token} {s : Stmt} → x.kind ≡ kind.Mark mark.Semicolon
+    → Then (SpellsExpr whole) (λ value. EndsAs (stmt first.at (form.Return (Some value)))) (x ∷ ts) r s → ⊥
 no_value_first first k (seq d e) = no_expression d refl k semicolon_begins_none
 
 nothing_back : (first x : Token) {all ts r : List Token} {s : Stmt} → all ≡ x ∷ ts → x.kind ≡ kind.Mark mark.Semicolon → ReturnRest first all r s → EndsAs (stmt first.at (form.Return None)) all r s
@@ -291,15 +332,19 @@ nothing_back first x {r = r} {s = s} e k (that d) =
     let from : List Token → Type 0 = λ y. Then (SpellsExpr whole) (λ value. EndsAs (stmt first.at (form.Return (Some value)))) y r s in
     absurd (no_value_first first k (subst from e d))
 
-pub nothing_next : (first : Token) (tokens : List Token) (next : Token) (rest : List Token) → tokens ≡ next ∷ rest → next.kind ≡ kind.Mark mark.Semicolon → Passes (EndsAs (stmt first.at (form.Return None))) (ReturnRest first) NoElse tokens tokens
-nothing_next first tokens next rest split k = narrowed (EndsAs (stmt first.at (form.Return None))) (ReturnRest first) NoElse tokens next rest split (λ ts r s d. this d) (λ ts r b s e d h. nothing_back first next e k d)
+pub nothing_next : (first : Token) (tokens : List Token) (next : Token) (rest : List Token) → tokens ≡ next ∷ rest → next.kind ≡ kind.Mark mark.Semicolon
+    → Passes (EndsAs (stmt first.at (form.Return None))) (ReturnRest first) NoElse tokens tokens
+nothing_next first tokens next rest split k = narrowed (EndsAs (stmt first.at (form.Return None))) (ReturnRest first) NoElse tokens next rest split (λ ts r s d. this d)
+    (λ ts r b s e d h. nothing_back first next e k d)
 
-pub something_next : (first : Token) (tokens : List Token) (next : Token) (rest : List Token) → tokens ≡ next ∷ rest → (next.kind ≡ kind.Mark mark.Semicolon → ⊥) → Passes (Then (SpellsExpr whole) (λ value. EndsAs (stmt first.at (form.Return (Some value))))) (ReturnRest first) NoElse tokens tokens
+pub something_next : (first : Token) (tokens : List Token) (next : Token) (rest : List Token) → tokens ≡ next ∷ rest → (next.kind ≡ kind.Mark mark.Semicolon → ⊥)
+    → Passes (Then (SpellsExpr whole) (λ value. EndsAs (stmt first.at (form.Return (Some value))))) (ReturnRest first) NoElse tokens tokens
 something_next first tokens next rest split other = passes_that (kind.Mark mark.Semicolon) _ _ NoElse tokens (begins_other (kind.Mark mark.Semicolon) tokens next rest split other)
 
 -- ---- assert and print
 
-pub opening_expr : (f : Expr → Stmt) → Follows (Tok (kind.Mark mark.OpenParen)) stops_anywhere (λ opening. Then (SpellsExpr whole) (λ test. Then (Tok (kind.Mark mark.CloseParen)) (λ closing. EndsAs (f test)))) NoElse
+pub opening_expr : (f : Expr → Stmt) → Follows (Tok (kind.Mark mark.OpenParen)) stops_anywhere
+    (λ opening. Then (SpellsExpr whole) (λ test. Then (Tok (kind.Mark mark.CloseParen)) (λ closing. EndsAs (f test)))) NoElse
 opening_expr f = tok_follows (kind.Mark mark.OpenParen) NoElse (λ opening. completes_then some_expr (λ test. completes_then (completes_tok (kind.Mark mark.CloseParen)) (λ closing. ends_as (f test))))
 
 pub test_closing : (f : Expr → Stmt) → Follows (SpellsExpr whole) (Stops whole) (λ test. Then (Tok (kind.Mark mark.CloseParen)) (λ closing. EndsAs (f test))) NoElse
@@ -308,7 +353,8 @@ test_closing f = expr_before mark.CloseParen NoElse refl (λ h. cc) (λ h. cc) (
 pub closing_end : (s : Stmt) → Follows (Tok (kind.Mark mark.CloseParen)) stops_anywhere (λ closing. EndsAs s) NoElse
 closing_end s = tok_follows (kind.Mark mark.CloseParen) NoElse (λ closing. ends_as s)
 
-items_once : {tokens middle middle' : List Token} {xs xs' : List Item} → ListUntil (kind.Mark mark.CloseParen) SpellsItem tokens middle xs → ListUntil (kind.Mark mark.CloseParen) SpellsItem tokens middle' xs' → (middle ≡ middle') × (xs ≡ xs')
+items_once : {tokens middle middle' : List Token} {xs xs' : List Item} → ListUntil (kind.Mark mark.CloseParen) SpellsItem tokens middle xs
+    → ListUntil (kind.Mark mark.CloseParen) SpellsItem tokens middle' xs' → (middle ≡ middle') × (xs ≡ xs')
 items_once d d' = let both : _ × _ = unique_items d.1 d'.1 refl refl refl d.2 d'.2 in ((cc both.0), both.1)
 
 pub items_follow : (f : List Item → Stmt) → Follows (ListUntil (kind.Mark mark.CloseParen) SpellsItem) stops_anywhere (λ items. EndsAs (f items)) NoElse
@@ -319,7 +365,8 @@ items_follow f = record {
   completes = λ items. ends_as (f items);
 }
 
-pub opening_items : (f : List Item → Stmt) → Follows (Tok (kind.Mark mark.OpenParen)) stops_anywhere (λ opening. Then (ListUntil (kind.Mark mark.CloseParen) SpellsItem) (λ items. EndsAs (f items))) NoElse
+pub opening_items : (f : List Item → Stmt) → Follows (Tok (kind.Mark mark.OpenParen)) stops_anywhere (λ opening. Then (ListUntil (kind.Mark mark.CloseParen) SpellsItem) (λ items. EndsAs (f items)))
+    NoElse
 opening_items f = tok_follows (kind.Mark mark.OpenParen) NoElse (λ opening. completes_then (completes_list (kind.Mark mark.CloseParen) SpellsItem (Stops whole)) (λ items. ends_as (f items)))
 
 -- ---- items of a print
@@ -333,26 +380,33 @@ some_item = record { ending = some_expr.ending; finished = item.Value some_expr.
 abbrev round : TokenKind
 round = kind.Mark mark.CloseParen
 
-pub items_nothing : (tokens : List Token) (first : Token) (rest : List Token) → IsEnded tokens → tokens ≡ first ∷ rest → first.kind ≡ round → Found (ListUntil round SpellsItem) stops_anywhere tokens rest []
+pub items_nothing : (tokens : List Token) (first : Token) (rest : List Token) → IsEnded tokens → tokens ≡ first ∷ rest → first.kind ≡ round
+    → Found (ListUntil round SpellsItem) stops_anywhere tokens rest []
 items_nothing tokens first rest ended split same =
-    list_nothing round SpellsItem (Stops whole) item_once (stops_same whole) (λ _ _ _ _ _ d. no_item d) (λ _ _ h. stops_paren h) (λ _ _ h. stops_comma h) (λ h. cc) some_item tokens first rest ended split same (λ h. cc)
+    list_nothing round SpellsItem (Stops whole) item_once (stops_same whole) (λ _ _ _ _ _ d. no_item d) (λ _ _ h. stops_paren h) (λ _ _ h. stops_comma h) (λ h. cc) some_item tokens first rest ended
+    split same (λ h. cc)
 
 pub items_err : (tokens : List Token) (e : ParseError) → BeginsOtherThan round tokens → Fails SpellsItem (Stops whole) tokens e → Fails (ListUntil round SpellsItem) stops_anywhere tokens e
 items_err = list_err round SpellsItem (Stops whole) item_once (stops_same whole) (λ _ _ _ _ _ d. no_item d) (λ _ _ h. stops_paren h) (λ _ _ h. stops_comma h) (λ h. cc) some_item
 
-pub items_begun : (tokens middle : List Token) (x : Item) → BeginsOtherThan round tokens → Found SpellsItem (Stops whole) tokens middle x → Passes (MoreUntil round SpellsItem (x ∷ [])) (ListUntil round SpellsItem) stops_anywhere middle tokens
+pub items_begun : (tokens middle : List Token) (x : Item) → BeginsOtherThan round tokens → Found SpellsItem (Stops whole) tokens middle x
+    → Passes (MoreUntil round SpellsItem (x ∷ [])) (ListUntil round SpellsItem) stops_anywhere middle tokens
 items_begun = list_begun round SpellsItem (Stops whole) item_once (stops_same whole) (λ _ _ _ _ _ d. no_item d) (λ _ _ h. stops_paren h) (λ _ _ h. stops_comma h) (λ h. cc) some_item
 
-pub items_more_err : (sofar : List Item) (tokens : List Token) (comma : Token) (rest : List Token) (e : ParseError) → IsEnded tokens → tokens ≡ comma ∷ rest → comma.kind ≡ kind.Mark mark.Comma → Fails SpellsItem (Stops whole) rest e → Fails (MoreUntil round SpellsItem sofar) stops_anywhere tokens e
+pub items_more_err : (sofar : List Item) (tokens : List Token) (comma : Token) (rest : List Token) (e : ParseError) → IsEnded tokens → tokens ≡ comma ∷ rest → comma.kind ≡ kind.Mark mark.Comma
+    → Fails SpellsItem (Stops whole) rest e → Fails (MoreUntil round SpellsItem sofar) stops_anywhere tokens e
 items_more_err = more_err round SpellsItem (Stops whole) item_once (stops_same whole) (λ _ _ _ _ _ d. no_item d) (λ _ _ h. stops_paren h) (λ _ _ h. stops_comma h) (λ h. cc) some_item
 
-pub items_more : (sofar : List Item) (tokens : List Token) (comma : Token) (rest middle : List Token) (x : Item) → IsEnded tokens → tokens ≡ comma ∷ rest → comma.kind ≡ kind.Mark mark.Comma → Found SpellsItem (Stops whole) rest middle x → Passes (MoreUntil round SpellsItem (sofar ++ x ∷ [])) (MoreUntil round SpellsItem sofar) stops_anywhere middle tokens
+pub items_more : (sofar : List Item) (tokens : List Token) (comma : Token) (rest middle : List Token) (x : Item) → IsEnded tokens → tokens ≡ comma ∷ rest → comma.kind ≡ kind.Mark mark.Comma
+    → Found SpellsItem (Stops whole) rest middle x → Passes (MoreUntil round SpellsItem (sofar ++ x ∷ [])) (MoreUntil round SpellsItem sofar) stops_anywhere middle tokens
 items_more = more_step round SpellsItem (Stops whole) item_once (stops_same whole) (λ _ _ _ _ _ d. no_item d) (λ _ _ h. stops_paren h) (λ _ _ h. stops_comma h) (λ h. cc) some_item
 
-pub items_last_err : (sofar : List Item) (tokens : List Token) (e : ParseError) → BeginsOtherThan (kind.Mark mark.Comma) tokens → Fails (IsToken round) stops_anywhere tokens e → Fails (MoreUntil round SpellsItem sofar) stops_anywhere tokens e
+pub items_last_err : (sofar : List Item) (tokens : List Token) (e : ParseError) → BeginsOtherThan (kind.Mark mark.Comma) tokens → Fails (IsToken round) stops_anywhere tokens e
+    → Fails (MoreUntil round SpellsItem sofar) stops_anywhere tokens e
 items_last_err = last_err round SpellsItem (Stops whole) item_once (stops_same whole) (λ _ _ _ _ _ d. no_item d) (λ _ _ h. stops_paren h) (λ _ _ h. stops_comma h) (λ h. cc) some_item
 
-pub items_last : (sofar : List Item) (tokens rest : List Token) (closing : Token) → BeginsOtherThan (kind.Mark mark.Comma) tokens → Found (IsToken round) stops_anywhere tokens rest closing → Found (MoreUntil round SpellsItem sofar) stops_anywhere tokens rest sofar
+pub items_last : (sofar : List Item) (tokens rest : List Token) (closing : Token) → BeginsOtherThan (kind.Mark mark.Comma) tokens → Found (IsToken round) stops_anywhere tokens rest closing
+    → Found (MoreUntil round SpellsItem sofar) stops_anywhere tokens rest sofar
 items_last = last_ok round SpellsItem (Stops whole) item_once (stops_same whole) (λ _ _ _ _ _ d. no_item d) (λ _ _ h. stops_paren h) (λ _ _ h. stops_comma h) (λ h. cc) some_item
 
 -- ---- one item
@@ -383,8 +437,10 @@ value_back : {first : Token} {all ts r : List Token} {i : Item} → all ≡ firs
 value_back e never (text {t = t} k) = absurd (never t (cc))
 value_back e never (value d) = seq d ret
 
-pub value_next : (tokens : List Token) (first : Token) (rest : List Token) → tokens ≡ first ∷ rest → NotText first → Passes (Then (SpellsExpr whole) (λ e. Ret (item.Value e))) SpellsItem (Stops whole) tokens tokens
-value_next tokens first rest split never = narrowed (Then (SpellsExpr whole) (λ e. Ret (item.Value e))) SpellsItem (Stops whole) tokens first rest split (λ ts r i d. value_there d) (λ ts r b i e d h. value_back e never d)
+pub value_next : (tokens : List Token) (first : Token) (rest : List Token) → tokens ≡ first ∷ rest → NotText first
+    → Passes (Then (SpellsExpr whole) (λ e. Ret (item.Value e))) SpellsItem (Stops whole) tokens tokens
+value_next tokens first rest split never = narrowed (Then (SpellsExpr whole) (λ e. Ret (item.Value e))) SpellsItem (Stops whole) tokens first rest split (λ ts r i d. value_there d)
+    (λ ts r b i e d h. value_back e never d)
 
 -- what an expression stops at
 
@@ -403,7 +459,8 @@ level_most binary_op.Ne = omega arith
 level_most binary_op.And = omega arith
 level_most binary_op.Or = omega arith
 
-pub stops_next : (tokens : List Token) (next : Token) (rest : List Token) → tokens ≡ next ∷ rest → (next.kind ≡ kind.Mark mark.OpenBracket → ⊥) → (next.kind ≡ kind.Mark mark.OpenParen → ⊥) → at_mark operator_of next.kind ≡ None → Stops whole tokens
+pub stops_next : (tokens : List Token) (next : Token) (rest : List Token) → tokens ≡ next ∷ rest → (next.kind ≡ kind.Mark mark.OpenBracket → ⊥) → (next.kind ≡ kind.Mark mark.OpenParen → ⊥)
+    → at_mark operator_of next.kind ≡ None → Stops whole tokens
 stops_next tokens next rest split bracket paren none = record {
   no_index = begins_other (kind.Mark mark.OpenBracket) tokens next rest split bracket;
   no_call = begins_other (kind.Mark mark.OpenParen) tokens next rest split paren;
@@ -413,7 +470,8 @@ stops_next tokens next rest split bracket paren none = record {
     is_operator : (op : BinaryOp) → next.kind ≡ kind.Mark (mark_of op) → ⊥
     is_operator op same = let found : Some op ≡ None = sym (operator_of-mark_of op) ∙ ap (λ k. at_mark operator_of k) (sym same) ∙ none in cc
 
-pub goes_on_refused : {T : Type 0} (tree : T) (tokens : List Token) (next : Token) (rest : List Token) → tokens ≡ next ∷ rest → ((others : List Token) → Stops whole (next ∷ others) → ⊥) → Refused (Ret tree) (Stops whole) tokens next.at
+pub goes_on_refused : {T : Type 0} (tree : T) (tokens : List Token) (next : Token) (rest : List Token) → tokens ≡ next ∷ rest → ((others : List Token) → Stops whole (next ∷ others) → ⊥)
+    → Refused (Ret tree) (Stops whole) tokens next.at
 goes_on_refused {T = T} tree tokens next rest split never =
     let at : List Token → Type 0 = λ x. Refused (Ret tree) (Stops whole) x next.at in
     subst at (sym split) (refused_here (Ret tree) (Stops whole) next rest (λ others r t d h. here d h) [] tree (λ others. ret))
@@ -439,7 +497,8 @@ some_change = record {
   some = λ others. set (bare refl) refl (some_expr.some others);
 }
 
-pub change_refused : (tokens : List Token) (first : Token) (rest : List Token) → tokens ≡ first ∷ rest → ((n : Name) → first.kind ≡ kind.Named n → ⊥) → Refused SpellsChange (Stops whole) tokens first.at
+pub change_refused : (tokens : List Token) (first : Token) (rest : List Token) → tokens ≡ first ∷ rest → ((n : Name) → first.kind ≡ kind.Named n → ⊥)
+    → Refused SpellsChange (Stops whole) tokens first.at
 change_refused tokens first rest split never =
     let at : List Token → Type 0 = λ x. Refused SpellsChange (Stops whole) x first.at in
     subst at (sym split) (refused_here SpellsChange (Stops whole) first rest (λ others r s d h. no_change_begins d refl never) some_change.ending some_change.finished some_change.some)
@@ -448,15 +507,18 @@ start_decl_back : {first : Token} (t : Ty) {all ts r : List Token} {s : Stmt} �
 start_decl_back t w e (declares d) = d
 start_decl_back t w e (changes d) = absurd (no_change_begins d e (λ n same. cc))
 
-pub start_decl : (t : Ty) (tokens : List Token) (first : Token) (rest : List Token) → tokens ≡ first ∷ rest → first.kind ≡ kind.Word (type_word t) → Passes SpellsDecl SpellsStart (Stops whole) tokens tokens
+pub start_decl : (t : Ty) (tokens : List Token) (first : Token) (rest : List Token) → tokens ≡ first ∷ rest → first.kind ≡ kind.Word (type_word t)
+    → Passes SpellsDecl SpellsStart (Stops whole) tokens tokens
 start_decl t tokens first rest split w = narrowed SpellsDecl SpellsStart (Stops whole) tokens first rest split (λ ts r s d. declares d) (λ ts r b s e d h. start_decl_back t w e d)
 
-start_change_back : {first : Token} {all ts r : List Token} {s : Stmt} → (first.kind ≡ kind.Word word.Int → ⊥) → (first.kind ≡ kind.Word word.Bool → ⊥) → all ≡ first ∷ ts → SpellsStart all r s → SpellsChange all r s
+start_change_back : {first : Token} {all ts r : List Token} {s : Stmt} → (first.kind ≡ kind.Word word.Int → ⊥) → (first.kind ≡ kind.Word word.Bool → ⊥) → all ≡ first ∷ ts → SpellsStart all r s
+    → SpellsChange all r s
 start_change_back i b e (changes d) = d
 start_change_back i b e (declares (declare {t = ty.Int} w n a v)) = absurd (i (cc))
 start_change_back i b e (declares (declare {t = ty.Bool} w n a v)) = absurd (b (cc))
 
-pub start_change : (tokens : List Token) (first : Token) (rest : List Token) → tokens ≡ first ∷ rest → (first.kind ≡ kind.Word word.Int → ⊥) → (first.kind ≡ kind.Word word.Bool → ⊥) → Passes SpellsChange SpellsStart (Stops whole) tokens tokens
+pub start_change : (tokens : List Token) (first : Token) (rest : List Token) → tokens ≡ first ∷ rest → (first.kind ≡ kind.Word word.Int → ⊥) → (first.kind ≡ kind.Word word.Bool → ⊥)
+    → Passes SpellsChange SpellsStart (Stops whole) tokens tokens
 start_change tokens first rest split i b = narrowed SpellsChange SpellsStart (Stops whole) tokens first rest split (λ ts r s d. changes d) (λ ts r x s e d h. start_change_back i b e d)
 
 pub last_name : (one two : Name) → Follows (Tok (kind.Mark mark.CloseParen)) stops_anywhere (λ closing. Ret (both one two)) stops_anywhere
@@ -466,10 +528,12 @@ pub second_name : (one : Name) → Follows NameTok stops_anywhere (λ two. Then 
 second_name one = name_follows stops_anywhere (λ two. completes_then (completes_tok (kind.Mark mark.CloseParen)) (λ closing. completes_ret (both one two)))
 
 some_second : (one : Name) → Completes (SecondName one)
-some_second one = completes_then (completes_tok (kind.Word word.Int)) (λ int. completes_then completes_name (λ two. completes_then (completes_tok (kind.Mark mark.CloseParen)) (λ closing. completes_ret (both one two))))
+some_second one = completes_then (completes_tok (kind.Word word.Int)) (λ int. completes_then completes_name
+    (λ two. completes_then (completes_tok (kind.Mark mark.CloseParen)) (λ closing. completes_ret (both one two))))
 
 pub second_int : (one : Name) → Follows (Tok (kind.Word word.Int)) stops_anywhere (λ int. Then NameTok (λ two. Then (Tok (kind.Mark mark.CloseParen)) (λ closing. Ret (both one two)))) stops_anywhere
-second_int one = tok_follows (kind.Word word.Int) stops_anywhere (λ int. completes_then completes_name (λ two. completes_then (completes_tok (kind.Mark mark.CloseParen)) (λ closing. completes_ret (both one two))))
+second_int one = tok_follows (kind.Word word.Int) stops_anywhere (λ int. completes_then completes_name
+    (λ two. completes_then (completes_tok (kind.Mark mark.CloseParen)) (λ closing. completes_ret (both one two))))
 
 pub name_comma : (one : Name) → Follows (Tok (kind.Mark mark.Comma)) stops_anywhere (λ comma. SecondName one) stops_anywhere
 name_comma one = tok_follows (kind.Mark mark.Comma) stops_anywhere (λ comma. some_second one)
@@ -480,5 +544,7 @@ first_name = name_follows stops_anywhere (λ one. completes_then (completes_tok 
 pub first_int : Follows (Tok (kind.Word word.Int)) stops_anywhere (λ int. Then NameTok (λ one. Then (Tok (kind.Mark mark.Comma)) (λ comma. SecondName one))) stops_anywhere
 first_int = tok_follows (kind.Word word.Int) stops_anywhere (λ int. completes_then completes_name (λ one. completes_then (completes_tok (kind.Mark mark.Comma)) (λ comma. some_second one)))
 
-pub names_opening : Follows (Tok (kind.Mark mark.OpenParen)) stops_anywhere (λ opening. Then (Tok (kind.Word word.Int)) (λ int. Then NameTok (λ one. Then (Tok (kind.Mark mark.Comma)) (λ comma. SecondName one)))) stops_anywhere
-names_opening = tok_follows (kind.Mark mark.OpenParen) stops_anywhere (λ opening. completes_then (completes_tok (kind.Word word.Int)) (λ int. completes_then completes_name (λ one. completes_then (completes_tok (kind.Mark mark.Comma)) (λ comma. some_second one))))
+pub names_opening : Follows (Tok (kind.Mark mark.OpenParen)) stops_anywhere (λ opening. Then (Tok (kind.Word word.Int))
+    (λ int. Then NameTok (λ one. Then (Tok (kind.Mark mark.Comma)) (λ comma. SecondName one)))) stops_anywhere
+names_opening = tok_follows (kind.Mark mark.OpenParen) stops_anywhere (λ opening. completes_then (completes_tok (kind.Word word.Int))
+    (λ int. completes_then completes_name (λ one. completes_then (completes_tok (kind.Mark mark.Comma)) (λ comma. some_second one))))

@@ -8,7 +8,8 @@ ghost use Rattle.csl_grammar.specs.Expressions.{whole};
 ghost use Rattle.csl_grammar.specs.Programs.{SpellsItem, SpellsStmt, stmt, type_word};
 ghost use Rattle.csl_grammar.specs.Stops.{IsEnded, Stops};
 ghost use Rattle.expression_parser.specs.Reading.{Answers, ListUntil, Ret, behind, stops_anywhere};
-ghost use Rattle.statement_parser.specs.Statements.{NoElse, EndsAs, DeclRest, Changing, ChangeRest, IndexedRest, CallRest, ReturnRest, AssertRest, PrintRest};
+ghost use Rattle.statement_parser.specs.Statements.{NoElse, EndsAs, DeclRest, Changing, ChangeRest, IndexedRest, CallRest, ReturnRest};
+ghost use Rattle.statement_parser.specs.Statements.{AssertRest, PrintRest};
 
 use csl_tree::name::Name;
 use csl_tree::program::{Call, Form, Item, Place, Stmt, Ty};

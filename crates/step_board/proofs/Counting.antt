@@ -64,7 +64,8 @@ full_or_stale false older rest verdict old is = inr (is ∙ ap (λ b. cond b Sta
 
 module _ {job : StepJob} {history : History} {claims arrivals held ends : ℕ} (counted : IsCounted job history claims arrivals held ends) where
   -- what was complete or spent stays so
-  lasts : (entry : Entry) → claims_by is_worker history ≤ claims_by is_worker (history ++ entry ∷ []) → 0 < ends → IsComplete job (history ++ entry ∷ []) ⊎ (claim_bound (size_of job) ≤ claims_by is_worker (history ++ entry ∷ []))
+  lasts : (entry : Entry) → claims_by is_worker history ≤ claims_by is_worker (history ++ entry ∷ []) → 0 < ends
+      → IsComplete job (history ++ entry ∷ []) ⊎ (claim_bound (size_of job) ≤ claims_by is_worker (history ++ entry ∷ []))
   lasts entry more some =
       ⊎_elim
       (λ (complete : IsComplete job history).
@@ -181,7 +182,8 @@ module _ {job : StepJob} {history : History} {claims arrivals held ends : ℕ} (
       leb-true _ _ (and_parts (is_worker who) (leb (arrival_bound (size_of job)) (arrivals_by is_worker history)) full).1
 
   -- a delivery of this step
-  pub counted_arrival : (who k : ℕ) (verdict : Verdict) → who < CALLER → verdict ≡ verdict_on job history who job.number k → IsCounted job (after_arrival history who job.number k verdict) claims (arrivals + 1) held ends
+  pub counted_arrival : (who k : ℕ) (verdict : Verdict) → who < CALLER → verdict ≡ verdict_on job history who job.number k
+      → IsCounted job (after_arrival history who job.number k verdict) claims (arrivals + 1) held ends
   counted_arrival who k First worker is =
       let w : one_if (is_worker who) ≡ 1 = ap one_if (lt-ltb who CALLER worker) in
       entered who job.number k First (arrivals + 1) held worker (room_is who job.number k First worker is (λ e. cc)) (omega (arith, w)) (omega arith) (omega (arith, w))
@@ -197,10 +199,12 @@ module _ {job : StepJob} {history : History} {claims arrivals held ends : ℕ} (
       absurd (omega (arith, less))
   counted_arrival who k Full worker is = refused (arrivals + 1) held (no_room who job.number k is) (omega arith)
 
-  held_by : (who step k : ℕ) (verdict : Verdict) → who < CALLER → verdict ≡ verdict_on job history who step k → (verdict ≡ Full) ⊎ (verdict ≡ Stale) → IsCounted job (after_arrival history who step k verdict) claims arrivals (held + 1) ends
+  held_by : (who step k : ℕ) (verdict : Verdict) → who < CALLER → verdict ≡ verdict_on job history who step k → (verdict ≡ Full) ⊎ (verdict ≡ Stale)
+      → IsCounted job (after_arrival history who step k verdict) claims arrivals (held + 1) ends
   held_by who step k verdict worker is which =
       ⊎_elim
-      (λ (full : verdict ≡ Full). subst (λ v. IsCounted job (after_arrival history who step k v) claims arrivals (held + 1) ends) (sym full) (refused arrivals (held + 1) (no_room who step k (sym full ∙ is)) (omega arith)))
+      (λ (full : verdict ≡ Full). subst (λ v. IsCounted job (after_arrival history who step k v) claims arrivals (held + 1) ends) (sym full)
+      (refused arrivals (held + 1) (no_room who step k (sym full ∙ is)) (omega arith)))
       (λ (stale : verdict ≡ Stale).
       let w : one_if (is_worker who) ≡ 1 = ap one_if (lt-ltb who CALLER worker) in
       subst (λ v. IsCounted job (after_arrival history who step k v) claims arrivals (held + 1) ends) (sym stale)
@@ -208,7 +212,8 @@ module _ {job : StepJob} {history : History} {claims arrivals held ends : ℕ} (
       which
 
   -- a delivery of an older step
-  pub counted_held : (who step k : ℕ) (verdict : Verdict) → who < CALLER → step < job.number → verdict ≡ verdict_on job history who step k → IsCounted job (after_arrival history who step k verdict) claims arrivals (held + 1) ends
+  pub counted_held : (who step k : ℕ) (verdict : Verdict) → who < CALLER → step < job.number → verdict ≡ verdict_on job history who step k
+      → IsCounted job (after_arrival history who step k verdict) claims arrivals (held + 1) ends
   counted_held who step k verdict worker older is =
       held_by who step k verdict worker is (full_or_stale (is_full who (arrivals_by is_worker history) (size_of job)) (ltb step job.number) _ verdict (lt-ltb _ _ older) is)
 

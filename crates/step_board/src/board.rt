@@ -135,8 +135,10 @@ impl<N: JobName, C: Ledger, A: Ledger, H: Ledger, E: Ledger> Board<N, C, A, H, E
         ensures alone { NoCaller result }
         ensures claims { claims_by is_worker result ≡ shares.claims }
         ensures few { shares.claims ≤ claim_bound (size_of N.job) }
-        ensures arrivals { shares.arrivals + shares.held ≤ arrival_bound (size_of N.job) → (stale_arrivals result ≡ shares.held) × (current_arrivals result ≡ shares.arrivals) }
-        ensures full { arrival_bound (size_of N.job) < shares.arrivals + shares.held → arrivals_by is_worker result ≡ arrival_bound (size_of N.job) }
+        ensures arrivals { shares.arrivals + shares.held ≤ arrival_bound (size_of N.job)
+            → (stale_arrivals result ≡ shares.held) × (current_arrivals result ≡ shares.arrivals) }
+        ensures full { arrival_bound (size_of N.job) < shares.arrivals + shares.held
+            → arrivals_by is_worker result ≡ arrival_bound (size_of N.job) }
         ensures ends { 0 < shares.ends → IsComplete N.job result ⊎ (claims_by is_worker result ≡ claim_bound (size_of N.job)) }
     {
         let Board {

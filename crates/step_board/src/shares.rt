@@ -26,7 +26,8 @@ impl<N: JobName, C: Ledger, A: Ledger, H: Ledger, E: Ledger> Model for WorkerSha
 
     ghost view = { λ s. record { parts = s.claims.parts; claims = s.claims.amount; arrivals = s.arrivals.amount; held = s.held.amount; ends = s.ends.amount } };
 
-    ghost invariant = { λ s. (0 < s.claims.parts) × (s.arrivals.parts ≡ s.claims.parts) × (s.held.parts ≡ s.claims.parts) × (s.ends.parts ≡ s.claims.parts) };
+    ghost invariant = { λ s. (0 < s.claims.parts) × (s.arrivals.parts ≡ s.claims.parts) × (s.held.parts ≡ s.claims.parts)
+        × (s.ends.parts ≡ s.claims.parts) };
 }
 
 impl<N: JobName, C: Ledger, A: Ledger, H: Ledger, E: Ledger> WorkerShares<N, C, A, H, E> {

@@ -1,5 +1,6 @@
 -- Each delivery keeps what the core keeps.
-use Rattle.std.proofs.Common.{◌≡◌, ◌≢◌, ℕ, zero, suc, ◌+◌, ◌^◌, ◌<◌, ◌≤◌, true, false, cond, ◌&&◌, ltb, eqb, List, [], ◌∷◌, ◌++◌, length, set, get_or, refl, sym, ap, ◌∙◌, subst, ⊎_elim, arith, Some, None}
+use Rattle.std.proofs.Common.{◌≡◌, ◌≢◌, ℕ, zero, suc, ◌+◌, ◌^◌, ◌<◌, ◌≤◌, true, false, cond, ◌&&◌, ltb, eqb, List, [], ◌∷◌, ◌++◌, length, set, get_or, refl, sym, ap, ◌∙◌, subst, ⊎_elim, arith, Some}
+use Rattle.std.proofs.Common.{None}
 use Rattle.std.specs.Prelude.{slice_get, is_some}
 use Rattle.std.specs.List.{sum}
 use Rattle.std.proofs.lemmas.List.{length-set, get_or-set_same, get_or-set_other, length_push}
@@ -127,7 +128,8 @@ module _ (job : StepJob) (table : Progress) (stage : Staged) (number claims arri
       ] is
 
   -- a delivery of an older step that is not full may come next
-  pub may_arrive_held : (who step k : ℕ) (verdict : Verdict) → who < CALLER → step < job.number → k < 2 ^ 32 → judged who arrivals (length table.claims) step number ≡ Some verdict → verdict ≢ Full → MayArrive job history who step k verdict
+  pub may_arrive_held : (who step k : ℕ) (verdict : Verdict) → who < CALLER → step < job.number → k < 2 ^ 32 → judged who arrivals (length table.claims) step number ≡ Some verdict → verdict ≢ Full
+      → MayArrive job history who step k verdict
   may_arrive_held who step k verdict worker older small is entered = record {
     known = omega arith;
     not_later = omega arith;
@@ -140,7 +142,8 @@ module _ (job : StepJob) (table : Progress) (stage : Staged) (number claims arri
   }
 
   -- a delivery of this step that is not full may come next
-  pub may_arrive : (value : History) → history ≡ value → (who k : ℕ) (verdict : Verdict) → who ≤ CALLER → k < size_of job → (who ≡ CALLER → arrivals_by is_caller value < size_of job) → verdict_on job history who job.number k ≡ verdict → verdict ≢ Full → MayArrive job history who number k verdict
+  pub may_arrive : (value : History) → history ≡ value → (who k : ℕ) (verdict : Verdict) → who ≤ CALLER → k < size_of job → (who ≡ CALLER → arrivals_by is_caller value < size_of job)
+      → verdict_on job history who job.number k ≡ verdict → verdict ≢ Full → MayArrive job history who number k verdict
   may_arrive value is who k verdict known within left judged entered = record {
     known = known;
     not_later = omega (arith, kept.numbered);
@@ -156,9 +159,11 @@ module _ (job : StepJob) (table : Progress) (stage : Staged) (number claims arri
   arrival_fits who step k verdict may =
       omega (arith, kept.has_room, length_push history (Arrive who step k verdict), length_is_bounded job (history ++ Arrive who step k verdict ∷ []) (legal_push job history (Arrive who step k verdict) kept.legal may))
 
-  arrivals_more : (who step k after : ℕ) (verdict : Verdict) → (who < CALLER → after ≡ arrivals + 1) → (CALLER ≤ who → after ≡ arrivals) → after ≡ arrivals_by is_worker (history ++ Arrive who step k verdict ∷ [])
+  arrivals_more : (who step k after : ℕ) (verdict : Verdict) → (who < CALLER → after ≡ arrivals + 1) → (CALLER ≤ who → after ≡ arrivals)
+      → after ≡ arrivals_by is_worker (history ++ Arrive who step k verdict ∷ [])
   arrivals_more who step k after verdict low high =
-      let more : arrivals_by is_worker (history ++ Arrive who step k verdict ∷ []) ≡ arrivals_by is_worker history + one_if (is_worker who) = count_by-push (is_arrival is_worker) history (Arrive who step k verdict) in
+      let more : arrivals_by is_worker (history ++ Arrive who step k verdict ∷ []) ≡ arrivals_by is_worker history + one_if (is_worker who) = count_by-push (is_arrival is_worker) history
+      (Arrive who step k verdict) in
       ⊎_elim
       (λ (l : who < CALLER). let one : one_if (is_worker who) ≡ 1 = ap one_if (lt-ltb who CALLER l) in omega (arith, more, one, low l, kept.arrivals_by_workers))
       (λ (h : CALLER ≤ who). let nought : one_if (is_worker who) ≡ 0 = ap one_if (le-ltb who CALLER h) in omega (arith, more, nought, high h, kept.arrivals_by_workers))
@@ -180,7 +185,8 @@ module _ (job : StepJob) (table : Progress) (stage : Staged) (number claims arri
       omega (arith, more)
 
   -- a delivery that is no first one keeps it, with table and stage as they are
-  pub other_keeps : (who step k after room_after : ℕ) (verdict : Verdict) → MayArrive job history who step k verdict → is_first verdict ≡ false → (who < CALLER → after ≡ arrivals + 1) → (CALLER ≤ who → after ≡ arrivals) → room ≤ room_after → IsKept job table stage number claims after room_after (history ++ Arrive who step k verdict ∷ [])
+  pub other_keeps : (who step k after room_after : ℕ) (verdict : Verdict) → MayArrive job history who step k verdict → is_first verdict ≡ false → (who < CALLER → after ≡ arrivals + 1)
+      → (CALLER ≤ who → after ≡ arrivals) → room ≤ room_after → IsKept job table stage number claims after room_after (history ++ Arrive who step k verdict ∷ [])
   other_keeps who step k after room_after verdict may none low high grown =
       let same : delivered job (history ++ Arrive who step k verdict ∷ []) ≡ delivered job history = delivered-other job history who step k verdict none in
       record {
@@ -201,7 +207,9 @@ module _ (job : StepJob) (table : Progress) (stage : Staged) (number claims arri
       }
 
   -- a first delivery keeps it, where the table notes it and the stage has its answer
-  first_keeps : (who k after room_after : ℕ) (answer : Answer) (more : Progress) (later : Staged) → MayArrive job history who number k First → slice_get job.answers k ≡ Some answer → LaysFirst table stage k answer more later → Agree more later (set (delivered job history) k (Some answer)) → (who < CALLER → after ≡ arrivals + 1) → (CALLER ≤ who → after ≡ arrivals) → room ≤ room_after → IsKept job more later number claims after room_after (history ++ Arrive who number k First ∷ [])
+  first_keeps : (who k after room_after : ℕ) (answer : Answer) (more : Progress) (later : Staged) → MayArrive job history who number k First → slice_get job.answers k ≡ Some answer
+      → LaysFirst table stage k answer more later → Agree more later (set (delivered job history) k (Some answer)) → (who < CALLER → after ≡ arrivals + 1) → (CALLER ≤ who → after ≡ arrivals)
+      → room ≤ room_after → IsKept job more later number claims after room_after (history ++ Arrive who number k First ∷ [])
   first_keeps who k after room_after answer more later may at first agree low high grown =
       let within : k < size_of job = within_length job.answers k answer at in
       let next : set (delivered job history) k (Some answer) ≡ delivered job (history ++ Arrive who number k First ∷ []) =
@@ -221,7 +229,8 @@ module _ (job : StepJob) (table : Progress) (stage : Staged) (number claims arri
             ⊎_elim
             (λ (same : j ≡ k).
             let here : get_or (set table.done k true) k false ≡ true = get_or-set_same table.done k true false (omega (arith, kept.flags)) in
-            ap (λ i. get_or (set table.done k true) i false) same ∙ (here ∙ (sym (delivered_at history who number k) ∙ ap (λ i. is_delivered (history ++ Arrive who number k First ∷ []) i) (sym same))))
+            ap (λ i. get_or (set table.done k true) i false) same ∙ (here ∙ (sym (delivered_at history who number k)
+            ∙ ap (λ i. is_delivered (history ++ Arrive who number k First ∷ []) i) (sym same))))
             (λ (apart : j ≡ k → ⊥).
             get_or-set_other table.done k j true false apart ∙ (kept.done_so j l ∙ sym (delivered_apart history who number k j apart)))
             (cases_eq j k);
@@ -233,14 +242,19 @@ module _ (job : StepJob) (table : Progress) (stage : Staged) (number claims arri
         legal = legal_push job history (Arrive who number k First) kept.legal may;
       }
 
-  same_keeps : (who k after room_after : ℕ) (verdict : Verdict) (more : Progress) (later : Staged) → MayArrive job history who number k verdict → is_first verdict ≡ false → AreSame table stage more later → (who < CALLER → after ≡ arrivals + 1) → (CALLER ≤ who → after ≡ arrivals) → room ≤ room_after → IsKept job more later number claims after room_after (history ++ Arrive who number k verdict ∷ [])
+  same_keeps : (who k after room_after : ℕ) (verdict : Verdict) (more : Progress) (later : Staged) → MayArrive job history who number k verdict → is_first verdict ≡ false
+      → AreSame table stage more later → (who < CALLER → after ≡ arrivals + 1) → (CALLER ≤ who → after ≡ arrivals) → room ≤ room_after
+      → IsKept job more later number claims after room_after (history ++ Arrive who number k verdict ∷ [])
   same_keeps who k after room_after verdict more later may none same low high grown =
       let is = other_keeps who number k after room_after verdict may none low high grown in
       rw (same.0, same.1) is
 
   -- a delivery that was committed keeps it, where it is entered
-  pub committed_keeps : (who k after room_after : ℕ) (verdict : Verdict) (answer : Answer) (more : Progress) (later : Staged) → MayArrive job history who number k verdict → slice_get job.answers k ≡ Some answer → Commits verdict table stage k answer more later → StillAgree verdict table stage k answer more later → (who < CALLER → after ≡ arrivals + 1) → (CALLER ≤ who → after ≡ arrivals) → room ≤ room_after → IsKept job more later number claims after room_after (history ++ Arrive who number k verdict ∷ [])
-  committed_keeps who k after room_after First answer more later may at commits agree low high grown = first_keeps who k after room_after answer more later may at commits (agree (delivered job history) agree_now) low high grown
+  pub committed_keeps : (who k after room_after : ℕ) (verdict : Verdict) (answer : Answer) (more : Progress) (later : Staged) → MayArrive job history who number k verdict
+      → slice_get job.answers k ≡ Some answer → Commits verdict table stage k answer more later → StillAgree verdict table stage k answer more later → (who < CALLER → after ≡ arrivals + 1)
+      → (CALLER ≤ who → after ≡ arrivals) → room ≤ room_after → IsKept job more later number claims after room_after (history ++ Arrive who number k verdict ∷ [])
+  committed_keeps who k after room_after First answer more later may at commits agree low high grown = first_keeps who k after room_after answer more later may at commits
+      (agree (delivered job history) agree_now) low high grown
   committed_keeps who k after room_after Again answer more later may at commits agree low high grown = same_keeps who k after room_after Again more later may refl commits low high grown
   committed_keeps who k after room_after Stale answer more later may at commits agree low high grown = same_keeps who k after room_after Stale more later may refl commits low high grown
   committed_keeps who k after room_after Unasked answer more later may at commits agree low high grown = same_keeps who k after room_after Unasked more later may refl commits low high grown

@@ -1,5 +1,6 @@
 -- Each call of the core keeps what the core keeps.
-use Rattle.std.proofs.Common.{◌≡◌, ℕ, ◌+◌, ◌-◌, ◌^◌, ◌<◌, ◌≤◌, not, ◌&&◌, ltb, eqb, [], ◌∷◌, ◌++◌, length, set, get_or, refl, sym, ap, ◌∙◌, subst, ⊎_elim, arith, cond, Result, Ok, Err, None, true, false}
+use Rattle.std.proofs.Common.{◌≡◌, ℕ, ◌+◌, ◌-◌, ◌^◌, ◌<◌, ◌≤◌, not, ◌&&◌, ltb, eqb, [], ◌∷◌, ◌++◌, length, set, get_or, refl, sym, ap, ◌∙◌, subst, ⊎_elim, arith, cond, Result, Ok, Err, None, true}
+use Rattle.std.proofs.Common.{false}
 use Rattle.std.specs.List.{sum}
 use Rattle.std.proofs.lemmas.List.{length-set, get_or-set_same, get_or-set_other, length_push}
 use Rattle.std.proofs.lemmas.List.Sums.{sum_by-set}
@@ -37,7 +38,8 @@ module _ (job : StepJob) (table : Progress) (stage : Staged) (number claims arri
   complete_so none k =
       ⊎_elim
       (λ (within : k < size_of job). sym (wanted_agrees k within) ∙ none k (omega (arith, kept.size)))
-      (λ (past : size_of job ≤ k). and_right (not (is_delivered history k)) _ (le-ltb k (least_faulty (kinds_of job.opening) (delivered job history)) (omega (arith, least_faulty-le (kinds_of job.opening) (delivered job history), length-restricted_to (is_delivered history) job.answers))))
+      (λ (past : size_of job ≤ k). and_right (not (is_delivered history k)) _ (le-ltb k (least_faulty (kinds_of job.opening) (delivered job history))
+      (omega (arith, least_faulty-le (kinds_of job.opening) (delivered job history), length-restricted_to (is_delivered history) job.answers))))
       (cases_lt k (size_of job))
 
   -- what is laid, merged into the kinds memory, is what the step means
@@ -45,9 +47,12 @@ module _ (job : StepJob) (table : Progress) (stage : Staged) (number claims arri
   laid_means value is complete = merged_is_meant job history kept.legal (rw is complete)
 
   -- so the merge ends as the step was meant to
-  pub merge_means : (value : History) → history ≡ value → (before later : Memory) → before ≡ job.opening → IsComplete job value → (result : Result (Unit {0}) StepFault) → Merges stage before later result → IsEnd (meant job) later result
-  merge_means value is before later opened complete (Ok done) merges = sym (laid_means value is complete) ∙ (ap (λ m. after m (delivered job history)) (sym opened) ∙ merges (delivered job history) kept.laid_so)
-  merge_means value is before later opened complete (Err fault) merges = sym (laid_means value is complete) ∙ (ap (λ m. after m (delivered job history)) (sym opened) ∙ merges (delivered job history) kept.laid_so)
+  pub merge_means : (value : History) → history ≡ value → (before later : Memory) → before ≡ job.opening → IsComplete job value → (result : Result (Unit {0}) StepFault)
+      → Merges stage before later result → IsEnd (meant job) later result
+  merge_means value is before later opened complete (Ok done) merges = sym (laid_means value is complete)
+      ∙ (ap (λ m. after m (delivered job history)) (sym opened) ∙ merges (delivered job history) kept.laid_so)
+  merge_means value is before later opened complete (Err fault) merges = sym (laid_means value is complete)
+      ∙ (ap (λ m. after m (delivered job history)) (sym opened) ∙ merges (delivered job history) kept.laid_so)
 
   -- the table chooses what the history chooses
   pub least_agrees : least_wanted_in table ≡ lightest_below (size_of job) (is_wanted job history) (claims_of history)
@@ -76,7 +81,8 @@ module _ (job : StepJob) (table : Progress) (stage : Staged) (number claims arri
   may_claim who k known left answered = record { known = known; answered = sym (claimed_agrees who) ∙ answered; caller_has_left = left }
 
   -- the same, of the history as a caller sees it
-  pub may_claim_at : (value : History) → history ≡ value → (who k : ℕ) → who ≤ CALLER → (who ≡ CALLER → claims_by is_caller value < size_of job) → Work k ≡ claimed_in table who claims → MayClaim job history who k
+  pub may_claim_at : (value : History) → history ≡ value → (who k : ℕ) → who ≤ CALLER → (who ≡ CALLER → claims_by is_caller value < size_of job) → Work k ≡ claimed_in table who claims
+      → MayClaim job history who k
   may_claim_at value is who k known left answered =
       may_claim who k known (λ e. rw (ap (λ h. claims_by is_caller h) is) (left e)) (sym answered)
 
@@ -107,7 +113,8 @@ module _ (job : StepJob) (table : Progress) (stage : Staged) (number claims arri
       (cases_eq j k)
 
   -- a granted claim keeps it
-  pub claim_keeps : (who k after room_after : ℕ) → MayClaim job history who k → (who < CALLER → after ≡ claims + 1) → (CALLER ≤ who → after ≡ claims) → room ≤ room_after → IsKept job (with_claim table k) stage number after arrivals room_after (history ++ Claim who k ∷ [])
+  pub claim_keeps : (who k after room_after : ℕ) → MayClaim job history who k → (who < CALLER → after ≡ claims + 1) → (CALLER ≤ who → after ≡ claims) → room ≤ room_after
+      → IsKept job (with_claim table k) stage number after arrivals room_after (history ++ Claim who k ∷ [])
   claim_keeps who k after room_after may low high grown =
       let within : k < size_of job = claim_within who k may in
       let same : delivered job (history ++ Claim who k ∷ []) ≡ delivered job history = delivered-claim job history who k in
@@ -127,7 +134,8 @@ module _ (job : StepJob) (table : Progress) (stage : Staged) (number claims arri
         bounded = kept.bounded ∙ ap (λ a. least_faulty (kinds_of job.opening) a) (sym same);
         laid_so = subst (StandsFor stage) (sym same) kept.laid_so;
         claims_by_workers =
-            let more : claims_by is_worker (history ++ Claim who k ∷ []) ≡ claims_by is_worker history + one_if (is_worker who && true) = count_by-push (is_claim is_worker anyone) history (Claim who k) in
+            let more : claims_by is_worker (history ++ Claim who k ∷ []) ≡ claims_by is_worker history + one_if (is_worker who && true) = count_by-push (is_claim is_worker anyone) history
+            (Claim who k) in
             ⊎_elim
             (λ (l : who < CALLER). let one : one_if (is_worker who && true) ≡ 1 = ap (λ b. one_if (b && true)) (lt-ltb who CALLER l) in omega (arith, more, one, low l, kept.claims_by_workers))
             (λ (h : CALLER ≤ who). let nought : one_if (is_worker who && true) ≡ 0 = ap (λ b. one_if (b && true)) (le-ltb who CALLER h) in omega (arith, more, nought, high h, kept.claims_by_workers))

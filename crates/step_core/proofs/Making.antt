@@ -32,7 +32,9 @@ none_faulty_yet job =
     (λ k h. not_faulty_without (kinds_of job.opening) (delivered job []) k (answer_of-restricted_to (is_delivered []) job.answers k))
     (λ h. absurd (omega arith)))
 
-pub made_keeps : (job : StepJob) (table : Progress) (stage : Staged) (n number room : ℕ) → (◌≡◌ {A = Progress} table (record { claims = replicate n 0; done = replicate n false; bound = n })) → stage.kinds ≡ kinds_of job.opening → StandsFor stage (replicate n None) → n ≡ size_of job → n ≤ 65536 → number ≡ job.number → (claim_bound (size_of job) + size_of job) + (arrival_bound (size_of job) + size_of job) ≤ room → IsKept job table stage number 0 0 room []
+pub made_keeps : (job : StepJob) (table : Progress) (stage : Staged) (n number room : ℕ) → (◌≡◌ {A = Progress} table (record { claims = replicate n 0; done = replicate n false; bound = n }))
+    → stage.kinds ≡ kinds_of job.opening → StandsFor stage (replicate n None) → n ≡ size_of job → n ≤ 65536 → number ≡ job.number
+    → (claim_bound (size_of job) + size_of job) + (arrival_bound (size_of job) + size_of job) ≤ room → IsKept job table stage number 0 0 room []
 made_keeps job table stage n number room is kinds stands size small numbered fits =
     let claims = ap (λ t. t.claims) is in
     let done = ap (λ t. t.done) is in

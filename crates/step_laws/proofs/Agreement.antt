@@ -78,7 +78,8 @@ pub at_least_faulty : (kinds : List WordKind) (answers : Answers) → least_faul
 unfolding least_faulty
 at_least_faulty kinds answers h = at_least (length answers) (is_faulty kinds answers) h
 
-pub least_faulty_at : (kinds : List WordKind) (answers : Answers) (m : ℕ) → m ≤ length answers → ((k : ℕ) → k < m → is_faulty kinds answers k ≡ false) → (m < length answers → is_faulty kinds answers m ≡ true) → least_faulty kinds answers ≡ m
+pub least_faulty_at : (kinds : List WordKind) (answers : Answers) (m : ℕ) → m ≤ length answers → ((k : ℕ) → k < m → is_faulty kinds answers k ≡ false)
+    → (m < length answers → is_faulty kinds answers m ≡ true) → least_faulty kinds answers ≡ m
 unfolding least_faulty
 least_faulty_at kinds answers m within none fails = least_at (length answers) (is_faulty kinds answers) m within none fails
 
@@ -115,16 +116,20 @@ least_faulty_same kinds xs ys size agree =
     (λ h. sym (is_faulty_same kinds xs ys f agree) ∙ at_least_faulty kinds xs (omega arith))
 
 -- a step whose least faulty number is below its size ends in that number's fault
-pub after_fault : (memory : Memory) (answers : Answers) → least_faulty (kinds_of memory) answers < length answers → after memory answers ≡ Err (fault_of (kinds_of memory) answers (least_faulty (kinds_of memory) answers))
+pub after_fault : (memory : Memory) (answers : Answers) → least_faulty (kinds_of memory) answers < length answers
+    → after memory answers ≡ Err (fault_of (kinds_of memory) answers (least_faulty (kinds_of memory) answers))
 unfolding after
-after_fault memory answers h = ap (λ b. cond b (Err (fault_of (kinds_of memory) answers (least_faulty (kinds_of memory) answers))) (unless_outside (position is_outside (merged_memory memory answers)) (merged_memory memory answers))) (lt-ltb _ _ h)
+after_fault memory answers h = ap (λ b. cond b (Err (fault_of (kinds_of memory) answers (least_faulty (kinds_of memory) answers)))
+    (unless_outside (position is_outside (merged_memory memory answers)) (merged_memory memory answers))) (lt-ltb _ _ h)
 
 -- what agrees up to and at its own least faulty number, which is below its size, leaves the same
-pub after_same : (memory : Memory) (xs ys : Answers) → length xs ≡ length ys → least_faulty (kinds_of memory) xs < length xs → AgreeBelow xs ys (suc (least_faulty (kinds_of memory) xs)) → after memory xs ≡ after memory ys
+pub after_same : (memory : Memory) (xs ys : Answers) → length xs ≡ length ys → least_faulty (kinds_of memory) xs < length xs → AgreeBelow xs ys (suc (least_faulty (kinds_of memory) xs))
+    → after memory xs ≡ after memory ys
 after_same memory xs ys size below agree =
     let f = least_faulty (kinds_of memory) xs in
     let least : least_faulty (kinds_of memory) ys ≡ f = least_faulty_same (kinds_of memory) xs ys size agree in
-    let fault : fault_of (kinds_of memory) xs f ≡ fault_of (kinds_of memory) ys (least_faulty (kinds_of memory) ys) = fault_of_same (kinds_of memory) xs ys f agree ∙ ap (λ k. fault_of (kinds_of memory) ys k) (sym least) in
+    let fault : fault_of (kinds_of memory) xs f ≡ fault_of (kinds_of memory) ys (least_faulty (kinds_of memory) ys) = fault_of_same (kinds_of memory) xs ys f agree
+    ∙ ap (λ k. fault_of (kinds_of memory) ys k) (sym least) in
     after_fault memory xs below ∙ (ap (λ e. Err e) fault ∙ sym (after_fault memory ys (omega arith)))
 
 -- what an answer has to show for is shown by the same answer among more
@@ -155,7 +160,8 @@ unfolding shared_word
 word_more kinds xs ys k within h =
     let w = least_below (length kinds) (is_shared kinds xs k) in
     let below : w < length kinds = ltb-true _ _ h in
-    let le : least_below (length kinds) (is_shared kinds ys k) ≤ w = least_le (length kinds) (is_shared kinds ys k) w (shared_more kinds xs ys k w within (at_least (length kinds) (is_shared kinds xs k) below)) in
+    let le : least_below (length kinds) (is_shared kinds ys k) ≤ w = least_le (length kinds) (is_shared kinds ys k) w
+    (shared_more kinds xs ys k w within (at_least (length kinds) (is_shared kinds xs k) below)) in
     lt-ltb _ _ (omega arith)
 
 -- a faulty number stays faulty where further answers come
@@ -189,7 +195,8 @@ one_writer_each kinds answers j k address sound below within ordinary writes =
     let first : first_writer answers k address ≤ j = least_le k wrote j also in
     let shared : is_shared kinds answers k address ≡ true = and_from _ _ ordinary (and_from _ _ writes (lt-ltb (first_writer answers k address) k (omega arith))) in
     let word : least_below (length kinds) (is_shared kinds answers k) ≤ address = least_le (length kinds) (is_shared kinds answers k) address shared in
-    let faulty : (is_fault (answer_of answers k) || ltb (least_below (length kinds) (is_shared kinds answers k)) (length kinds)) ≡ true = or_right _ _ (lt-ltb (least_below (length kinds) (is_shared kinds answers k)) (length kinds) (omega arith)) in
+    let faulty : (is_fault (answer_of answers k) || ltb (least_below (length kinds) (is_shared kinds answers k)) (length kinds)) ≡ true = or_right _ _
+    (lt-ltb (least_below (length kinds) (is_shared kinds answers k)) (length kinds) (omega arith)) in
     absurd (both_ways _ sound faulty))
     (λ (not_also : wrote j ≡ false). not_also)
     (cases_Bool (wrote j))

@@ -33,78 +33,83 @@ complete_at job history all k =
     (λ (within : k < size_of job).
     let is : is_delivered history k ≡ true = count_all (size_of job) (is_delivered history) all k within in
     ap (λ b. not b && ltb k (least_faulty (kinds_of job.opening) (delivered job history))) is)
-    (λ (past : size_of job ≤ k). and_right (not (is_delivered history k)) _ (le-ltb k (least_faulty (kinds_of job.opening) (delivered job history)) (omega (arith, least_faulty-le (kinds_of job.opening) (delivered job history), length-restricted_to (is_delivered history) job.answers))))
+    (λ (past : size_of job ≤ k). and_right (not (is_delivered history k)) _ (le-ltb k (least_faulty (kinds_of job.opening) (delivered job history))
+    (omega (arith, least_faulty-le (kinds_of job.opening) (delivered job history), length-restricted_to (is_delivered history) job.answers))))
     (cases_lt k (size_of job))
 
 -- after a claim and a delivery by the caller
-module _ (job : StepJob) (history : History) (k : ℕ) (legal : IsLegal job history) (small : size_of job ≤ 65536) (even : CallerIsEven job history) (answered : claimed job history CALLER ≡ Work k) where
-  right : IsRightClaim job history CALLER (Work k)
-  right = subst (IsRightClaim job history CALLER) answered (claims_are_right job history CALLER)
+module _ (job : StepJob) (history : History) (k : ℕ) (legal : IsLegal job history) (small : size_of job ≤ 65536) (even : CallerIsEven job history) (answered : claimed job history CALLER ≡ Work k)
+  where
+    right : IsRightClaim job history CALLER (Work k)
+    right = subst (IsRightClaim job history CALLER) answered (claims_are_right job history CALLER)
 
-  within : k < size_of job
-  within = right.1.within
+    within : k < size_of job
+    within = right.1.within
 
-  new : is_delivered history k ≡ false
-  new = not-true _ (and_parts (not (is_delivered history k)) _ right.1.passes).0
+    new : is_delivered history k ≡ false
+    new = not-true _ (and_parts (not (is_delivered history k)) _ right.1.passes).0
 
-  after_claim : History
-  after_claim = history ++ Claim CALLER k ∷ []
+    after_claim : History
+    after_claim = history ++ Claim CALLER k ∷ []
 
-  more : delivered_count job (history ++ pair_of job k) ≡ delivered_count job history + 1
-  unfolding after_claim
-  more =
-      let split : history ++ pair_of job k ≡ after_claim ++ Arrive CALLER job.number k First ∷ [] = sym (append_assoc history (Claim CALLER k ∷ []) (Arrive CALLER job.number k First ∷ [])) in
-      let at : is_delivered (after_claim ++ Arrive CALLER job.number k First ∷ []) k ≡ true = delivered_at after_claim CALLER job.number k in
-      ap (λ h. delivered_count job h) split
-      ∙ count_more (size_of job) (is_delivered history) (is_delivered (after_claim ++ Arrive CALLER job.number k First ∷ [])) k within new at
-      (λ j apart. delivered_apart after_claim CALLER job.number k j apart ∙ delivered_no_more history (Claim CALLER k) j refl)
+    more : delivered_count job (history ++ pair_of job k) ≡ delivered_count job history + 1
+    unfolding after_claim
+    more =
+        let split : history ++ pair_of job k ≡ after_claim ++ Arrive CALLER job.number k First ∷ [] = sym (append_assoc history (Claim CALLER k ∷ []) (Arrive CALLER job.number k First ∷ [])) in
+        let at : is_delivered (after_claim ++ Arrive CALLER job.number k First ∷ []) k ≡ true = delivered_at after_claim CALLER job.number k in
+        ap (λ h. delivered_count job h) split
+        ∙ count_more (size_of job) (is_delivered history) (is_delivered (after_claim ++ Arrive CALLER job.number k First ∷ [])) k within new at
+        (λ j apart. delivered_apart after_claim CALLER job.number k j apart ∙ delivered_no_more history (Claim CALLER k) j refl)
 
-  left_over : delivered_count job history < size_of job
-  left_over = let most = count_le (size_of job) (is_delivered (history ++ pair_of job k)) in omega (arith, more)
+    left_over : delivered_count job history < size_of job
+    left_over = let most = count_le (size_of job) (is_delivered (history ++ pair_of job k)) in omega (arith, more)
 
-  pub pair_legal : IsLegal job (history ++ pair_of job k)
-  unfolding after_claim
-  pair_legal =
-      let may_claim : MayClaim job history CALLER k = record { known = omega arith; answered = answered; caller_has_left = λ e. omega (arith, even.claims, left_over) } in
-      let first : IsLegal job after_claim = legal_push job history (Claim CALLER k) legal may_claim in
-      let arrivals : arrivals_by is_caller after_claim ≡ arrivals_by is_caller history + 0 = count_by-push (is_arrival is_caller) history (Claim CALLER k) in
-      let may_arrive : MayArrive job after_claim CALLER job.number k First =
-      record {
-        known = omega arith;
-        not_later = omega arith;
-        small = omega (arith, within);
-        in_range = λ e. within;
-        judged = caller_delivers_first job history k answered;
-        entered = λ e. cc;
-        caller_is_current = λ e. refl;
-        caller_has_left = λ e. omega (arith, even.arrivals, left_over, arrivals);
-      }
-      in
-      subst (IsLegal job) (append_assoc history (Claim CALLER k ∷ []) (Arrive CALLER job.number k First ∷ [])) (legal_push job after_claim (Arrive CALLER job.number k First) first may_arrive)
+    pub pair_legal : IsLegal job (history ++ pair_of job k)
+    unfolding after_claim
+    pair_legal =
+        let may_claim : MayClaim job history CALLER k = record { known = omega arith; answered = answered; caller_has_left = λ e. omega (arith, even.claims, left_over) } in
+        let first : IsLegal job after_claim = legal_push job history (Claim CALLER k) legal may_claim in
+        let arrivals : arrivals_by is_caller after_claim ≡ arrivals_by is_caller history + 0 = count_by-push (is_arrival is_caller) history (Claim CALLER k) in
+        let may_arrive : MayArrive job after_claim CALLER job.number k First =
+        record {
+          known = omega arith;
+          not_later = omega arith;
+          small = omega (arith, within);
+          in_range = λ e. within;
+          judged = caller_delivers_first job history k answered;
+          entered = λ e. cc;
+          caller_is_current = λ e. refl;
+          caller_has_left = λ e. omega (arith, even.arrivals, left_over, arrivals);
+        }
+        in
+        subst (IsLegal job) (append_assoc history (Claim CALLER k ∷ []) (Arrive CALLER job.number k First ∷ [])) (legal_push job after_claim (Arrive CALLER job.number k First) first may_arrive)
 
-  pub pair_even : CallerIsEven job (history ++ pair_of job k)
-  unfolding after_claim
-  pair_even =
-      let split : history ++ pair_of job k ≡ after_claim ++ Arrive CALLER job.number k First ∷ [] = sym (append_assoc history (Claim CALLER k ∷ []) (Arrive CALLER job.number k First ∷ [])) in
-      record {
-        claims =
-            let a : claims_by is_caller after_claim ≡ claims_by is_caller history + 1 = count_by-push (is_claim is_caller anyone) history (Claim CALLER k) in
-            let b : claims_by is_caller (after_claim ++ Arrive CALLER job.number k First ∷ []) ≡ claims_by is_caller after_claim + 0 = count_by-push (is_claim is_caller anyone) after_claim (Arrive CALLER job.number k First) in
-            omega (arith, ap (λ h. claims_by is_caller h) split, a, b, more, even.claims);
-        arrivals =
-            let a : arrivals_by is_caller after_claim ≡ arrivals_by is_caller history + 0 = count_by-push (is_arrival is_caller) history (Claim CALLER k) in
-            let b : arrivals_by is_caller (after_claim ++ Arrive CALLER job.number k First ∷ []) ≡ arrivals_by is_caller after_claim + 1 = count_by-push (is_arrival is_caller) after_claim (Arrive CALLER job.number k First) in
-            omega (arith, ap (λ h. arrivals_by is_caller h) split, a, b, more, even.arrivals);
-      }
+    pub pair_even : CallerIsEven job (history ++ pair_of job k)
+    unfolding after_claim
+    pair_even =
+        let split : history ++ pair_of job k ≡ after_claim ++ Arrive CALLER job.number k First ∷ [] = sym (append_assoc history (Claim CALLER k ∷ []) (Arrive CALLER job.number k First ∷ [])) in
+        record {
+          claims =
+              let a : claims_by is_caller after_claim ≡ claims_by is_caller history + 1 = count_by-push (is_claim is_caller anyone) history (Claim CALLER k) in
+              let b : claims_by is_caller (after_claim ++ Arrive CALLER job.number k First ∷ []) ≡ claims_by is_caller after_claim + 0 = count_by-push (is_claim is_caller anyone) after_claim
+              (Arrive CALLER job.number k First) in
+              omega (arith, ap (λ h. claims_by is_caller h) split, a, b, more, even.claims);
+          arrivals =
+              let a : arrivals_by is_caller after_claim ≡ arrivals_by is_caller history + 0 = count_by-push (is_arrival is_caller) history (Claim CALLER k) in
+              let b : arrivals_by is_caller (after_claim ++ Arrive CALLER job.number k First ∷ []) ≡ arrivals_by is_caller after_claim + 1 = count_by-push (is_arrival is_caller) after_claim
+              (Arrive CALLER job.number k First) in
+              omega (arith, ap (λ h. arrivals_by is_caller h) split, a, b, more, even.arrivals);
+        }
 
-  pub pair_more : delivered_count job (history ++ pair_of job k) ≡ delivered_count job history + 1
-  pair_more = more
+    pub pair_more : delivered_count job (history ++ pair_of job k) ≡ delivered_count job history + 1
+    pair_more = more
 
 pub record IsWholeNow (job : StepJob) (history : History) : Type 0 where
   pub legal : IsLegal job history
   pub complete : IsComplete job history
 
-pairs_complete : (most : ℕ) (job : StepJob) (history : History) → IsLegal job history → size_of job ≤ 65536 → CallerIsEven job history → size_of job ≤ delivered_count job history + most → IsWholeNow job (with_pairs most job history)
+pairs_complete : (most : ℕ) (job : StepJob) (history : History) → IsLegal job history → size_of job ≤ 65536 → CallerIsEven job history → size_of job ≤ delivered_count job history + most
+    → IsWholeNow job (with_pairs most job history)
 pairs_complete zero job history legal small even enough = record { legal = legal; complete = complete_at job history (omega arith) }
 pairs_complete (suc most) job history legal small even enough =
     elim (claimed job history CALLER) as (λ c. claimed job history CALLER ≡ c → IsWholeNow job (pairs_by c job history (with_pairs most job))) [
@@ -134,15 +139,18 @@ alone_claim history who k worker alone = record {
       let more : claims_by is_caller (history ++ Claim who k ∷ []) ≡ claims_by is_caller history + one_if (is_caller who && true) = count_by-push (is_claim is_caller anyone) history (Claim who k) in
       let nought : one_if (is_caller who && true) ≡ 0 = ap (λ b. one_if (b && true)) (not_caller who worker) in
       omega (arith, more, nought, alone.claims);
-  arrivals = let more : arrivals_by is_caller (history ++ Claim who k ∷ []) ≡ arrivals_by is_caller history + 0 = count_by-push (is_arrival is_caller) history (Claim who k) in omega (arith, more, alone.arrivals);
+  arrivals = let more : arrivals_by is_caller (history ++ Claim who k ∷ []) ≡ arrivals_by is_caller history + 0 = count_by-push (is_arrival is_caller) history (Claim who k) in omega
+      (arith, more, alone.arrivals);
 }
 
 -- and its delivery too
 pub alone_arrive : (history : History) (who step k : ℕ) (verdict : Verdict) → who < CALLER → NoCaller history → NoCaller (history ++ Arrive who step k verdict ∷ [])
 alone_arrive history who step k verdict worker alone = record {
-  claims = let more : claims_by is_caller (history ++ Arrive who step k verdict ∷ []) ≡ claims_by is_caller history + 0 = count_by-push (is_claim is_caller anyone) history (Arrive who step k verdict) in omega (arith, more, alone.claims);
+  claims = let more : claims_by is_caller (history ++ Arrive who step k verdict ∷ []) ≡ claims_by is_caller history + 0 = count_by-push (is_claim is_caller anyone) history
+      (Arrive who step k verdict) in omega (arith, more, alone.claims);
   arrivals =
-      let more : arrivals_by is_caller (history ++ Arrive who step k verdict ∷ []) ≡ arrivals_by is_caller history + one_if (is_caller who) = count_by-push (is_arrival is_caller) history (Arrive who step k verdict) in
+      let more : arrivals_by is_caller (history ++ Arrive who step k verdict ∷ []) ≡ arrivals_by is_caller history + one_if (is_caller who) = count_by-push (is_arrival is_caller) history
+      (Arrive who step k verdict) in
       let nought : one_if (is_caller who) ≡ 0 = ap one_if (not_caller who worker) in
       omega (arith, more, nought, alone.arrivals);
 }

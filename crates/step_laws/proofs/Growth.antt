@@ -1,5 +1,6 @@
 -- What one entry more changes.
-use Rattle.std.proofs.Common.{◌≡◌, ◌≢◌, ℕ, zero, suc, ◌+◌, ◌<◌, ◌≤◌, Bool, true, false, cond, ◌&&◌, ltb, leb, eqb, List, [], ◌∷◌, ◌++◌, length, set, refl, sym, ap, ◌∙◌, ⊎_elim, arith, Option, Some, None}
+use Rattle.std.proofs.Common.{◌≡◌, ◌≢◌, ℕ, zero, suc, ◌+◌, ◌<◌, ◌≤◌, Bool, true, false, cond, ◌&&◌, ltb, leb, eqb, List, [], ◌∷◌, ◌++◌, length, set, refl, sym, ap, ◌∙◌, ⊎_elim, arith, Option, Some}
+use Rattle.std.proofs.Common.{None}
 use Rattle.std.specs.Prelude.{slice_get}
 use Rattle.std.proofs.lemmas.List.{length_push}
 use Rattle.std.proofs.lemmas.Bool.{cases_lt, lt-ltb, le-ltb, leb-false, eq-eqb, ne_eqb}
@@ -25,7 +26,8 @@ restricted_same p q (answer ∷ answers) same =
     λ i. cond (here i) (Some answer) None ∷ rest i
 
 -- one number more
-pub restricted_more : (p q : ℕ → Bool) (answers : List Answer) (k : ℕ) (answer : Answer) → slice_get answers k ≡ Some answer → q k ≡ true → ((j : ℕ) → (j ≡ k → ⊥) → q j ≡ p j) → restricted_to q answers ≡ set (restricted_to p answers) k (Some answer)
+pub restricted_more : (p q : ℕ → Bool) (answers : List Answer) (k : ℕ) (answer : Answer) → slice_get answers k ≡ Some answer → q k ≡ true → ((j : ℕ) → (j ≡ k → ⊥) → q j ≡ p j)
+    → restricted_to q answers ≡ set (restricted_to p answers) k (Some answer)
 restricted_more p q [] k answer at passes same = refl
 restricted_more p q (x ∷ answers) zero answer at passes same =
     let here : Option Answer = Some answer in
@@ -46,7 +48,8 @@ delivered_no_more history entry k none = ap (λ n. ltb 0 n) (count_by-push (is_f
 pub delivered-claim : (job : StepJob) (history : History) (who k : ℕ) → delivered job (history ++ Claim who k ∷ []) ≡ delivered job history
 delivered-claim job history who k = restricted_same _ _ job.answers (λ j. delivered_no_more history (Claim who k) j refl)
 
-pub delivered-other : (job : StepJob) (history : History) (who step k : ℕ) (verdict : Verdict) → is_first verdict ≡ false → delivered job (history ++ Arrive who step k verdict ∷ []) ≡ delivered job history
+pub delivered-other : (job : StepJob) (history : History) (who step k : ℕ) (verdict : Verdict) → is_first verdict ≡ false
+    → delivered job (history ++ Arrive who step k verdict ∷ []) ≡ delivered job history
 delivered-other job history who step k verdict none =
     restricted_same _ _ job.answers (λ j. delivered_no_more history (Arrive who step k verdict) j (ap (λ b. b && eqb k j) none))
 
@@ -60,9 +63,11 @@ delivered_at history who step k =
 pub delivered_apart : (history : History) (who step k j : ℕ) → (j ≡ k → ⊥) → is_delivered (history ++ Arrive who step k First ∷ []) j ≡ is_delivered history j
 delivered_apart history who step k j ne = delivered_no_more history (Arrive who step k First) j (ne_eqb k j (λ e. ne (sym e)))
 
-pub delivered-first : (job : StepJob) (history : History) (who step k : ℕ) (answer : Answer) → slice_get job.answers k ≡ Some answer → delivered job (history ++ Arrive who step k First ∷ []) ≡ set (delivered job history) k (Some answer)
+pub delivered-first : (job : StepJob) (history : History) (who step k : ℕ) (answer : Answer) → slice_get job.answers k ≡ Some answer
+    → delivered job (history ++ Arrive who step k First ∷ []) ≡ set (delivered job history) k (Some answer)
 delivered-first job history who step k answer at =
-    restricted_more (is_delivered history) (is_delivered (history ++ Arrive who step k First ∷ [])) job.answers k answer at (delivered_at history who step k) (λ j ne. delivered_apart history who step k j ne)
+    restricted_more (is_delivered history) (is_delivered (history ++ Arrive who step k First ∷ [])) job.answers k answer at (delivered_at history who step k)
+    (λ j ne. delivered_apart history who step k j ne)
 
 -- ---- lengths
 
@@ -70,7 +75,8 @@ delivered-first job history who step k answer at =
 split_length : (job : StepJob) (history : History) → IsLegal job history → length history ≡ claims_by anyone history + arrivals_by anyone history
 split_length job history legal = kept_along (MayFollow job) (λ h. length h ≡ claims_by anyone h + arrivals_by anyone h) step history refl legal
   where
-    step : (h : History) (entry : Entry) → length h ≡ claims_by anyone h + arrivals_by anyone h → MayFollow job h entry → length (h ++ entry ∷ []) ≡ claims_by anyone (h ++ entry ∷ []) + arrivals_by anyone (h ++ entry ∷ [])
+    step : (h : History) (entry : Entry) → length h ≡ claims_by anyone h + arrivals_by anyone h → MayFollow job h entry
+        → length (h ++ entry ∷ []) ≡ claims_by anyone (h ++ entry ∷ []) + arrivals_by anyone (h ++ entry ∷ [])
     step h (Claim who k) e may = omega (arith, e, length_push h (Claim who k), count_by-push (is_claim anyone anyone) h (Claim who k), count_by-push (is_arrival anyone) h (Claim who k))
     step h (Arrive who s k v) e may = omega (arith, e, length_push h (Arrive who s k v), count_by-push (is_claim anyone anyone) h (Arrive who s k v), count_by-push (is_arrival anyone) h (Arrive who s k v))
 
@@ -91,8 +97,10 @@ arrival_step job history (Claim who k) bounded may = record {
 }
 arrival_step job history (Arrive who step k verdict) bounded may =
     let room : (is_worker who && leb (arrival_bound (size_of job)) (arrivals_by is_worker history)) ≡ false = not_full _ _ verdict may.judged may.entered in
-    let workers : arrivals_by is_worker (history ++ Arrive who step k verdict ∷ []) ≡ arrivals_by is_worker history + one_if (is_worker who) = count_by-push (is_arrival is_worker) history (Arrive who step k verdict) in
-    let caller : arrivals_by is_caller (history ++ Arrive who step k verdict ∷ []) ≡ arrivals_by is_caller history + one_if (is_caller who) = count_by-push (is_arrival is_caller) history (Arrive who step k verdict) in
+    let workers : arrivals_by is_worker (history ++ Arrive who step k verdict ∷ []) ≡ arrivals_by is_worker history + one_if (is_worker who) = count_by-push (is_arrival is_worker) history
+    (Arrive who step k verdict) in
+    let caller : arrivals_by is_caller (history ++ Arrive who step k verdict ∷ []) ≡ arrivals_by is_caller history + one_if (is_caller who) = count_by-push (is_arrival is_caller) history
+    (Arrive who step k verdict) in
     let all : arrivals_by anyone (history ++ Arrive who step k verdict ∷ []) ≡ arrivals_by anyone history + 1 = count_by-push (is_arrival anyone) history (Arrive who step k verdict) in
     ⊎_elim
     (λ (low : who < CALLER).
@@ -121,7 +129,8 @@ arrival_step job history (Arrive who step k verdict) bounded may =
     (cases_lt who CALLER)
 
 pub arrivals_are_bounded : (job : StepJob) (history : History) → IsLegal job history → ArrivalsAreBounded (size_of job) history
-arrivals_are_bounded job history legal = kept_along (MayFollow job) (ArrivalsAreBounded (size_of job)) (arrival_step job) history (record { workers = omega arith; caller = omega arith; all = omega arith }) legal
+arrivals_are_bounded job history legal = kept_along (MayFollow job) (ArrivalsAreBounded (size_of job)) (arrival_step job) history
+    (record { workers = omega arith; caller = omega arith; all = omega arith }) legal
 
 -- how many entries a legal history has at most
 pub length_is_bounded : (job : StepJob) (history : History) → IsLegal job history → length history ≤ (claim_bound (size_of job) + size_of job) + (arrival_bound (size_of job) + size_of job)

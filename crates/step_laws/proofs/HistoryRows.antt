@@ -56,7 +56,8 @@ module _ (job : StepJob) (history : History) where
   caller_claims : (k : ℕ) → claimed job history CALLER ≡ Work k → claims_by is_caller history < size_of job → MayClaim job history CALLER k
   caller_claims k answered left = record { known = omega arith; answered = answered; caller_has_left = λ _. left }
 
-  worker_delivers : (who step k : ℕ) (verdict : Verdict) → who < 32 → step ≤ job.number → k < 65536 → (step ≡ job.number → k < size_of job) → verdict_on job history who step k ≡ verdict → verdict ≢ Full → MayArrive job history who step k verdict
+  worker_delivers : (who step k : ℕ) (verdict : Verdict) → who < 32 → step ≤ job.number → k < 65536 → (step ≡ job.number → k < size_of job) → verdict_on job history who step k ≡ verdict
+      → verdict ≢ Full → MayArrive job history who step k verdict
   worker_delivers who step k verdict worker now small within judged entered = record {
     known = omega arith;
     not_later = now;
@@ -68,7 +69,8 @@ module _ (job : StepJob) (history : History) where
     caller_has_left = λ e. absurd (omega arith);
   }
 
-  caller_delivers : (k : ℕ) → k < size_of job → size_of job < 65536 → verdict_on job history CALLER job.number k ≡ First → arrivals_by is_caller history < size_of job → MayArrive job history CALLER job.number k First
+  caller_delivers : (k : ℕ) → k < size_of job → size_of job < 65536 → verdict_on job history CALLER job.number k ≡ First → arrivals_by is_caller history < size_of job
+      → MayArrive job history CALLER job.number k First
   caller_delivers k within few judged left = record {
     known = omega arith;
     not_later = omega arith;
@@ -89,7 +91,8 @@ not_wanted false k bound all =
     (cases_lt k bound)
 
 -- a history is complete where each number below the least faulty one was delivered
-complete_below : (job : StepJob) (history : History) (bound : ℕ) → least_faulty (kinds_of job.opening) (delivered job history) ≡ bound → ((k : ℕ) → k < bound → is_delivered history k ≡ true) → IsComplete job history
+complete_below : (job : StepJob) (history : History) (bound : ℕ) → least_faulty (kinds_of job.opening) (delivered job history) ≡ bound → ((k : ℕ) → k < bound → is_delivered history k ≡ true)
+    → IsComplete job history
 complete_below job history bound is all k = ap (λ n. not (is_delivered history k) && nat_lt k n) is ∙ not_wanted (is_delivered history k) k bound (all k)
 
 first_1 : (h : History) → is_delivered h 0 ≡ true → (k : ℕ) → k < 1 → is_delivered h k ≡ true

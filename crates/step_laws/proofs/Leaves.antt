@@ -1,5 +1,6 @@
 -- What a step leaves, in words.
-use Rattle.std.proofs.Common.{◌≡◌, ◌<◌, ◌≤◌, ◌+◌, ℕ, zero, suc, ℤ, pos, length, get_or, map, List, [], ◌∷◌, Option, None, Some, Err, ◌∙◌, sym, ap, subst, refl, arith, Bool, true, false, cond, ltb, not, ◌&&◌, add-zero, ⊎_elim, inl, inr}
+use Rattle.std.proofs.Common.{◌≡◌, ◌<◌, ◌≤◌, ◌+◌, ℕ, zero, suc, ℤ, pos, length, get_or, map, List, [], ◌∷◌, Option, None, Some, Err, ◌∙◌, sym, ap, subst, refl, arith, Bool, true, false, cond, ltb}
+use Rattle.std.proofs.Common.{not, ◌&&◌, add-zero, ⊎_elim, inl, inr}
 use Rattle.std.specs.Prelude.{is_some, MatchResult}
 use Rattle.std.specs.Option.{unwrap_or, option_map_or}
 use Rattle.std.specs.List.{enumerate_from, position, position_or_len}
@@ -104,7 +105,8 @@ only_one kinds answers k address i j none one other =
     (cases_lt j i))
     (cases_lt i j)
 
-right_fault_by : (memory : Memory) (answers : Answers) (k : ℕ) (answer : Option Answer) → answer_of answers k ≡ answer → is_faulty (kinds_of memory) answers k ≡ true → NoneBelow (kinds_of memory) answers k
+right_fault_by : (memory : Memory) (answers : Answers) (k : ℕ) (answer : Option Answer) → answer_of answers k ≡ answer → is_faulty (kinds_of memory) answers k ≡ true
+    → NoneBelow (kinds_of memory) answers k
     → IsRightFault memory answers (fault_by answer k (shared_word (kinds_of memory) answers k) (first_writer answers k (shared_word (kinds_of memory) answers k)))
 right_fault_by memory answers k None is faulty none = absurd (both_ways _ (not_faulty_without (kinds_of memory) answers k is) faulty)
 right_fault_by memory answers k (Some (Fault cause)) is faulty none = (is, none)
@@ -128,7 +130,8 @@ right_fault_by memory answers k (Some (Update update)) is faulty none =
       none,
     )
 
-right_fault : (memory : Memory) (answers : Answers) → least_faulty (kinds_of memory) answers < length answers → IsRightFault memory answers (fault_of (kinds_of memory) answers (least_faulty (kinds_of memory) answers))
+right_fault : (memory : Memory) (answers : Answers) → least_faulty (kinds_of memory) answers < length answers
+    → IsRightFault memory answers (fault_of (kinds_of memory) answers (least_faulty (kinds_of memory) answers))
 unfolding fault_of
 right_fault memory answers h =
     right_fault_by memory answers (least_faulty (kinds_of memory) answers) _ refl (at_least_faulty (kinds_of memory) answers h) (none_below_least (kinds_of memory) answers)
@@ -190,7 +193,8 @@ module _ (memory : Memory) (answers : Answers) where
         within = within;
         tally = parts.0;
         outside = λ total is.
-            ap fits_word ((totals_are_laid a (value_at memory a)).1 total is answers ∙ ap (λ k. value_after k answers a (value_at memory a)) tally) ∙ negated (fits_word (left_in memory answers a)) parts.1;
+            ap fits_word ((totals_are_laid a (value_at memory a)).1 total is answers ∙ ap (λ k. value_after k answers a (value_at memory a)) tally)
+            ∙ negated (fits_word (left_in memory answers a)) parts.1;
       }
     where
       negated : (b : Bool) → not b ≡ true → b ≡ false
@@ -206,10 +210,12 @@ module _ (memory : Memory) (answers : Answers) where
 
 -- ---- where nothing is faulty
 
-after_sound : (memory : Memory) (answers : Answers) → length answers ≤ least_faulty (kinds_of memory) answers → after memory answers ≡ unless_outside (position is_outside (merged_memory memory answers)) (merged_memory memory answers)
+after_sound : (memory : Memory) (answers : Answers) → length answers ≤ least_faulty (kinds_of memory) answers
+    → after memory answers ≡ unless_outside (position is_outside (merged_memory memory answers)) (merged_memory memory answers)
 unfolding after
 after_sound memory answers h =
-    ap (λ b. cond b (Err (fault_of (kinds_of memory) answers (least_faulty (kinds_of memory) answers))) (unless_outside (position is_outside (merged_memory memory answers)) (merged_memory memory answers))) (le-ltb _ _ h)
+    ap (λ b. cond b (Err (fault_of (kinds_of memory) answers (least_faulty (kinds_of memory) answers)))
+    (unless_outside (position is_outside (merged_memory memory answers)) (merged_memory memory answers))) (le-ltb _ _ h)
 
 ordinary_kind : (memory : Memory) (a : ℕ) → is_ordinary (kinds_of memory) a ≡ true → kind_at memory a ≡ Ordinary
 ordinary_kind [] zero e = refl
@@ -242,7 +248,8 @@ module _ (memory : Memory) (answers : Answers) (none : NoneBelow (kinds_of memor
       (λ (g : k ≤ first). omega arith)
       (cases_lt first k)
 
-  ordinary_left : (a : ℕ) → is_ordinary (kinds_of memory) a ≡ true → value_at (merged_memory memory answers) a ≡ unwrap_or (entry_in (answer_of answers (first_writer answers (length answers) a)) a) (value_at memory a)
+  ordinary_left : (a : ℕ) → is_ordinary (kinds_of memory) a ≡ true → value_at (merged_memory memory answers) a ≡ unwrap_or (entry_in (answer_of answers (first_writer answers (length answers) a)) a)
+      (value_at memory a)
   ordinary_left a ordinary =
       value_at-merged memory answers a (omega (arith, ordinary_within (kinds_of memory) a ordinary, length-map memory (λ (w : Word). w.kind)))
       ∙ ap (λ kind. value_after kind answers a (value_at memory a)) (ordinary_kind memory a ordinary)
@@ -282,7 +289,8 @@ module _ (memory : Memory) (answers : Answers) (none : NoneBelow (kinds_of memor
       (λ (h : length merged ≤ at).
       let nowhere : position is_outside merged ≡ None = ap (λ b. cond b (Some at) None) (le-ltb _ _ h) in
       subst (λ o. MatchResult (unless_outside o merged) (IsRightMemory memory answers) (IsRightFault memory answers)) (sym nowhere)
-      (right_memory (λ a outside. both_ways _ (fails_before_first is_outside merged a no_word (omega (arith, h, outside.within, length-merged memory answers))) (outside_test memory answers a outside))))
+      (right_memory (λ a outside. both_ways _ (fails_before_first is_outside merged a no_word (omega (arith, h, outside.within, length-merged memory answers)))
+      (outside_test memory answers a outside))))
       (cases_lt at (length merged))
 
 pub after_is_right : AfterIsRight

@@ -1,5 +1,6 @@
 -- The laws of a step's history.
-use Rattle.std.proofs.Common.{add-zero, MatchOption, ◌≡◌, ℕ, suc, ◌+◌, ◌<◌, ◌≤◌, Bool, true, false, cond, not, ◌&&◌, ltb, leb, eqb, [], ◌∷◌, ◌++◌, length, refl, sym, ap, ◌∙◌, subst, ⊎_elim, arith, Option, Some, None}
+use Rattle.std.proofs.Common.{add-zero, MatchOption, ◌≡◌, ℕ, suc, ◌+◌, ◌<◌, ◌≤◌, Bool, true, false, cond, not, ◌&&◌, ltb, leb, eqb, [], ◌∷◌, ◌++◌, length, refl, sym, ap, ◌∙◌, subst, ⊎_elim, arith}
+use Rattle.std.proofs.Common.{Option, Some, None}
 use Rattle.std.proofs.lemmas.List.{length-map}
 use Rattle.std.proofs.lemmas.Bool.{and_right, cases_lt, cases_Bool, both_ways, lt-ltb, le-ltb, ltb-true, ltb-false, leb-false, eqb-true, eq-eqb, ne_eqb, and_parts, and_from, not-true}
 use Rattle.cal_base.specs.declared.step.TheConstants.{CALLER}
@@ -12,10 +13,12 @@ use Rattle.cal_base.specs.Answers.{answer_of, all_of}
 use Rattle.cal_base.specs.After.{least_faulty, after}
 use Rattle.cal_base.specs.History.{History, is_worker, is_caller, anyone, is_claim, is_first_of, claims_by, claims_of, firsts_of, is_delivered}
 use Rattle.cal_base.specs.Claims.{StepJob, is_wanted, is_spent, IsLegal, size_of, claim_bound, delivered, claimed_if, verdict_on, MayFollow, IsComplete}
-use Rattle.step_laws.specs.Laws.{PrefixesAreLegal, DeliveredGrows, WantedShrinks, MergedIsMeant, LowerAnswersAgree, NoSecondFirst, EachFirstOnce, ClaimsAreBounded, IsRightClaim, ClaimsAreRight, CallerDeliversFirst}
+use Rattle.step_laws.specs.Laws.{PrefixesAreLegal, DeliveredGrows, WantedShrinks, MergedIsMeant, LowerAnswersAgree, NoSecondFirst, EachFirstOnce, ClaimsAreBounded, IsRightClaim, ClaimsAreRight}
+use Rattle.step_laws.specs.Laws.{CallerDeliversFirst}
 use Rattle.cal_base.specs.Numbers.{lightest_below, IsLightest}
 use Rattle.step_laws.proofs.Searches.{lightest_below-is}
-use Rattle.step_laws.proofs.Agreement.{least_faulty-le, length-restricted_to, answer_of-restricted_to, restricted_to_all, AgreeBelow, IsWithin, at_least_faulty, not_faulty_without, least_faulty_same, least_faulty_more, after_same}
+use Rattle.step_laws.proofs.Agreement.{least_faulty-le, length-restricted_to, answer_of-restricted_to, restricted_to_all, AgreeBelow, IsWithin, at_least_faulty, not_faulty_without, least_faulty_same}
+use Rattle.step_laws.proofs.Agreement.{least_faulty_more, after_same}
 use Rattle.step_laws.proofs.Histories.{count_by-append, count_by-push, first_may_follow, kept_along}
 
 -- ---- prefixes
@@ -134,17 +137,20 @@ complete_below job history complete k below =
     (cases_Bool (is_delivered history k))
 
 -- so is that number itself
-least_is_delivered : (job : StepJob) (history : History) → least_faulty (kinds_of job.opening) (delivered job history) < size_of job → is_delivered history (least_faulty (kinds_of job.opening) (delivered job history)) ≡ true
+least_is_delivered : (job : StepJob) (history : History) → least_faulty (kinds_of job.opening) (delivered job history) < size_of job
+    → is_delivered history (least_faulty (kinds_of job.opening) (delivered job history)) ≡ true
 least_is_delivered job history below =
     let f = least_faulty (kinds_of job.opening) (delivered job history) in
     ⊎_elim
     (λ (is : is_delivered history f ≡ true). is)
     (λ (isnt : is_delivered history f ≡ false).
     let none : answer_of (delivered job history) f ≡ None = answer_of-restricted_to (is_delivered history) job.answers f ∙ ap (λ b. cond b (answer_of (all_of job.answers) f) None) isnt in
-    absurd (both_ways _ (not_faulty_without (kinds_of job.opening) (delivered job history) f none) (at_least_faulty (kinds_of job.opening) (delivered job history) (omega (arith, length-delivered job history)))))
+    absurd (both_ways _ (not_faulty_without (kinds_of job.opening) (delivered job history) f none)
+    (at_least_faulty (kinds_of job.opening) (delivered job history) (omega (arith, length-delivered job history)))))
     (cases_Bool (is_delivered history f))
 
-complete_up_to : (job : StepJob) (history : History) → IsComplete job history → (k : ℕ) → k < size_of job → k ≤ least_faulty (kinds_of job.opening) (delivered job history) → is_delivered history k ≡ true
+complete_up_to : (job : StepJob) (history : History) → IsComplete job history → (k : ℕ) → k < size_of job → k ≤ least_faulty (kinds_of job.opening) (delivered job history)
+    → is_delivered history k ≡ true
 complete_up_to job history complete k within le =
     let f = least_faulty (kinds_of job.opening) (delivered job history) in
     ⊎_elim
@@ -166,17 +172,20 @@ all_delivered : (job : StepJob) (history : History) → IsComplete job history �
 all_delivered job history complete le = restricted_to_all (is_delivered history) job.answers (λ k h. complete_below job history complete k (omega arith))
 
 -- the answers agree up to the least delivered faulty number, itself included
-agree_up_to : (job : StepJob) (history : History) → IsComplete job history → least_faulty (kinds_of job.opening) (delivered job history) < size_of job → AgreeBelow (delivered job history) (all_of job.answers) (suc (least_faulty (kinds_of job.opening) (delivered job history)))
+agree_up_to : (job : StepJob) (history : History) → IsComplete job history → least_faulty (kinds_of job.opening) (delivered job history) < size_of job
+    → AgreeBelow (delivered job history) (all_of job.answers) (suc (least_faulty (kinds_of job.opening) (delivered job history)))
 agree_up_to job history complete below j h = delivered_answer job history j (complete_up_to job history complete j (omega arith) (omega arith))
 
 same_size : (job : StepJob) (history : History) → length (delivered job history) ≡ length (all_of job.answers)
 same_size job history = length-delivered job history ∙ sym (length-all_of job)
 
 -- the least faulty number is that of what was delivered
-least_of_complete : (job : StepJob) (history : History) → IsComplete job history → least_faulty (kinds_of job.opening) (all_of job.answers) ≡ least_faulty (kinds_of job.opening) (delivered job history)
+least_of_complete : (job : StepJob) (history : History) → IsComplete job history → least_faulty (kinds_of job.opening) (all_of job.answers) ≡ least_faulty (kinds_of job.opening)
+    (delivered job history)
 least_of_complete job history complete =
     ⊎_elim
-    (λ (below : least_faulty (kinds_of job.opening) (delivered job history) < size_of job). least_faulty_same (kinds_of job.opening) _ _ (same_size job history) (agree_up_to job history complete below))
+    (λ (below : least_faulty (kinds_of job.opening) (delivered job history) < size_of job). least_faulty_same (kinds_of job.opening) _ _ (same_size job history)
+    (agree_up_to job history complete below))
     (λ (le : size_of job ≤ least_faulty (kinds_of job.opening) (delivered job history)). ap (λ a. least_faulty (kinds_of job.opening) a) (sym (all_delivered job history complete le)))
     (cases_lt (least_faulty (kinds_of job.opening) (delivered job history)) (size_of job))
 
@@ -238,11 +247,13 @@ pub claims_are_right : ClaimsAreRight
 claims_are_right job history who =
     let n = size_of job in
     let spent = is_spent who (claims_by is_worker history) n in
-    elim (lightest_below n (is_wanted job history) (claims_of history)) as (λ o. MatchOption o ((j : ℕ) → j < n → is_wanted job history j ≡ false) (IsLightest n (is_wanted job history) (claims_of history)) → IsRightClaim job history who (claimed_if o spent)) [
+    elim (lightest_below n (is_wanted job history) (claims_of history)) as (λ o. MatchOption o ((j : ℕ) → j < n → is_wanted job history j ≡ false)
+    (IsLightest n (is_wanted job history) (claims_of history)) → IsRightClaim job history who (claimed_if o spent)) [
       | None ↦ λ none k.
           ⊎_elim
           (λ (within : k < n). none k within)
-          (λ (past : n ≤ k). and_right (not (is_delivered history k)) _ (le-ltb k (least_faulty (kinds_of job.opening) (delivered job history)) (omega (arith, least_faulty-le (kinds_of job.opening) (delivered job history), length-delivered job history))))
+          (λ (past : n ≤ k). and_right (not (is_delivered history k)) _ (le-ltb k (least_faulty (kinds_of job.opening) (delivered job history))
+          (omega (arith, least_faulty-le (kinds_of job.opening) (delivered job history), length-delivered job history))))
           (cases_lt k n)
       | Some k ↦ λ is.
           elim spent as (λ b. spent ≡ b → IsRightClaim job history who (claimed_if (Some k) b)) [
@@ -254,7 +265,8 @@ claims_are_right job history who =
 pub caller_delivers_first : CallerDeliversFirst
 caller_delivers_first job history k answered =
     let is : MatchOption (Some k) ((j : ℕ) → j < size_of job → is_wanted job history j ≡ false) (IsLightest (size_of job) (is_wanted job history) (claims_of history)) =
-    subst (λ o. MatchOption o ((j : ℕ) → j < size_of job → is_wanted job history j ≡ false) (IsLightest (size_of job) (is_wanted job history) (claims_of history))) (claimed_work _ _ k answered).0 (lightest_below-is (size_of job) (is_wanted job history) (claims_of history))
+    subst (λ o. MatchOption o ((j : ℕ) → j < size_of job → is_wanted job history j ≡ false) (IsLightest (size_of job) (is_wanted job history) (claims_of history))) (claimed_work _ _ k answered).0
+    (lightest_below-is (size_of job) (is_wanted job history) (claims_of history))
     in
     let new : is_delivered history k ≡ false = not-true _ (and_parts (not (is_delivered history k)) _ is.passes).0 in
     let firsts : firsts_of (history ++ Claim CALLER k ∷ []) k ≡ firsts_of history k + 0 = count_by-push (is_first_of k) history (Claim CALLER k) in

@@ -26,7 +26,8 @@ shifted answers a x =
     ap (λ z. add_from a z answers) same ∙ shift_from answers a x (pos 0)
 
 -- one answer in place of one that adds nothing
-pub sum_more : (xs : Answers) (k a : ℕ) (answer : Option Answer) (v : ℤ) → k < length xs → addend a (answer_of xs k) ≡ pos 0 → addend a answer ≡ v → (z : ℤ) → add_from a z (set xs k answer) ≡ add_from a z xs +ℤ v
+pub sum_more : (xs : Answers) (k a : ℕ) (answer : Option Answer) (v : ℤ) → k < length xs → addend a (answer_of xs k) ≡ pos 0 → addend a answer ≡ v → (z : ℤ)
+    → add_from a z (set xs k answer) ≡ add_from a z xs +ℤ v
 sum_more [] k a answer v within was is z = absurd (omega arith)
 sum_more (x ∷ xs) zero a answer v within was is z =
     let one = shifted xs a (z +ℤ addend a answer) in

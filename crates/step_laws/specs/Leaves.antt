@@ -1,5 +1,6 @@
 -- What a step leaves, in words. The definitions, which search and fold, come to just this.
-use Rattle.std.specs.Prelude.{◌≡◌, ℕ, ◌<◌, ◌≤◌, ◌↔◌, ◌⊎◌, IsTrue, IsFalse, List, length, replicate, ℤ, pos, ◌+ℤ◌, Option, Some, None, is_some, MatchResult, slice_set}
+use Rattle.std.specs.Prelude.{◌≡◌, ℕ, ◌<◌, ◌≤◌, ◌↔◌, ◌⊎◌, IsTrue, IsFalse, List, length, replicate, ℤ, pos, ◌+ℤ◌, Option, Some, None}
+use Rattle.std.specs.Prelude.{is_some, MatchResult, slice_set}
 use Rattle.std.specs.Option.{unwrap_or}
 use Rattle.cal_base.specs.declared.ends.StepFault.{StepFault}
 use Rattle.cal_base.specs.declared.ends.StepFault.TheVariants.{Trap, Conflict, Total}
@@ -42,7 +43,8 @@ addend address answer = unwrap_or (entry_in answer address) (pos 0)
 -- the totals of a tally word with this value, said by laying one answer after another: with no answer it is the value, and with one more it is exactly that answer's entry more
 pub record IsTotal (address : ℕ) (value : ℤ) (total : Answers → ℤ) : Type 0 where
   pub none : (n : ℕ) → total (replicate n None) ≡ value
-  pub more : (answers : Answers) (k : ℕ) (answer : Answer) → k < length answers → answer_of answers k ≡ None → total (slice_set answers k (Some answer)) ≡ total answers +ℤ addend address (Some answer)
+  pub more : (answers : Answers) (k : ℕ) (answer : Answer) → k < length answers → answer_of answers k ≡ None
+      → total (slice_set answers k (Some answer)) ≡ total answers +ℤ addend address (Some answer)
 
 -- the word has a total, and it is outside 64 bits
 pub record IsOutside (memory : Memory) (answers : Answers) (address : ℕ) : Type 0 where
@@ -53,18 +55,23 @@ pub record IsOutside (memory : Memory) (answers : Answers) (address : ℕ) : Typ
 -- a step ends with this fault: that of the least faulty number, or, where no number is faulty, the least total outside 64 bits
 abbrev pub IsRightFault : Memory → Answers → StepFault → Type 0
 IsRightFault memory answers (Trap k cause) = (answer_of answers k ≡ Some (Fault cause)) × NoneBelow (kinds_of memory) answers k
-IsRightFault memory answers (Conflict k address j) = IsConflict (kinds_of memory) answers k address j × NoneBelow (kinds_of memory) answers k
+IsRightFault memory answers (Conflict k address j) = IsConflict (kinds_of memory) answers k address j
+    × NoneBelow (kinds_of memory) answers k
 IsRightFault memory answers (Total address) =
-    NoneBelow (kinds_of memory) answers (length answers) × IsOutside memory answers address × ((a : ℕ) → IsOutside memory answers a → address ≤ a)
+    NoneBelow (kinds_of memory) answers (length answers) × IsOutside memory answers address
+    × ((a : ℕ) → IsOutside memory answers a → address ≤ a)
 
 -- a step leaves this memory: nothing is faulty or outside 64 bits, an ordinary word has the value of the number that has an entry for it, or stays, and a tally word has its total
 pub record IsRightMemory (memory : Memory) (answers : Answers) (later : Memory) : Type 0 where
   pub none_faulty : NoneBelow (kinds_of memory) answers (length answers)
   pub none_outside : (address : ℕ) → IsOutside memory answers address → ⊥
   pub kinds : kinds_of later ≡ kinds_of memory
-  pub written : (k address : ℕ) (value : ℤ) → IsTrue (is_ordinary (kinds_of memory) address) → entry_in (answer_of answers k) address ≡ Some value → value_at later address ≡ value
-  pub stays : (address : ℕ) → IsTrue (is_ordinary (kinds_of memory) address) → ((k : ℕ) → entry_in (answer_of answers k) address ≡ None) → value_at later address ≡ value_at memory address
-  pub total : (address : ℕ) → address < length memory → kind_at memory address ≡ Tally → (total : Answers → ℤ) → IsTotal address (value_at memory address) total → value_at later address ≡ total answers
+  pub written : (k address : ℕ) (value : ℤ) → IsTrue (is_ordinary (kinds_of memory) address)
+      → entry_in (answer_of answers k) address ≡ Some value → value_at later address ≡ value
+  pub stays : (address : ℕ) → IsTrue (is_ordinary (kinds_of memory) address) → ((k : ℕ) → entry_in (answer_of answers k) address ≡ None)
+      → value_at later address ≡ value_at memory address
+  pub total : (address : ℕ) → address < length memory → kind_at memory address ≡ Tally → (total : Answers → ℤ)
+      → IsTotal address (value_at memory address) total → value_at later address ≡ total answers
 
 -- what the answers leave in a tally word is its total, and there is no other
 abbrev pub TotalsAreLaid : Type 0
@@ -79,4 +86,5 @@ FaultyIsTested = (kinds : List WordKind) (answers : Answers) (k : ℕ) → IsTru
 
 -- what a step leaves is right
 abbrev pub AfterIsRight : Type 0
-AfterIsRight = (memory : Memory) (answers : Answers) → MatchResult (after memory answers) (IsRightMemory memory answers) (IsRightFault memory answers)
+AfterIsRight = (memory : Memory) (answers : Answers) → MatchResult (after memory answers) (IsRightMemory memory answers)
+    (IsRightFault memory answers)

@@ -129,7 +129,8 @@ ConflictBelowTrap =
 abbrev pub SumOfNumbers : Type 0
 SumOfNumbers =
     after (tally (pos 0) ∷ ordinary (pos 7) ∷ [])
-    (all_of (one 0 (pos 0) ∷ one 0 (pos 1) ∷ one 0 (pos 2) ∷ one 0 (pos 3) ∷ one 0 (pos 4) ∷ one 0 (pos 5) ∷ one 0 (pos 6) ∷ one 0 (pos 7) ∷ []))
+    (all_of (one 0 (pos 0) ∷ one 0 (pos 1) ∷ one 0 (pos 2) ∷ one 0 (pos 3) ∷ one 0 (pos 4) ∷ one 0 (pos 5) ∷ one 0 (pos 6) ∷ one 0 (pos 7)
+    ∷ []))
     ≡ Ok (tally (pos 28) ∷ ordinary (pos 7) ∷ [])
 
 -- the sums of two routines are outside 64 bits together: the step ends at that word
@@ -291,14 +292,16 @@ SecondStepFails =
 -- the events of a run whose step changed three of five words, and which then printed a line
 abbrev pub run_of_squares : List Event
 run_of_squares =
-    Step 1 4 (replicate 5 (ordinary (pos 0))) (ordinary (pos 0) ∷ ordinary (pos 1) ∷ ordinary (negsuc 3) ∷ ordinary (pos 9) ∷ ordinary (pos 0) ∷ [])
+    Step 1 4 (replicate 5 (ordinary (pos 0))) (ordinary (pos 0) ∷ ordinary (pos 1) ∷ ordinary (negsuc 3) ∷ ordinary (pos 9) ∷ ordinary
+    (pos 0) ∷ [])
     ∷ Line (codes "sum 6" ++ 10 ∷ []) ∷ []
 
 -- with the flag a completed step shows its number and each word that it changed
 abbrev pub StepsAreShown : Type 0
 StepsAreShown =
     text_of true run_of_squares
-    ≡ codes "step 1" ++ 10 ∷ [] ++ codes "word 1 = 1" ++ 10 ∷ [] ++ codes "word 2 = -4" ++ 10 ∷ [] ++ codes "word 3 = 9" ++ 10 ∷ [] ++ codes "sum 6" ++ 10 ∷ []
+    ≡ codes "step 1" ++ 10 ∷ [] ++ codes "word 1 = 1" ++ 10 ∷ [] ++ codes "word 2 = -4" ++ 10 ∷ [] ++ codes "word 3 = 9" ++ 10 ∷ []
+    ++ codes "sum 6" ++ 10 ∷ []
 
 -- without it only what was printed
 abbrev pub LinesAlone : Type 0

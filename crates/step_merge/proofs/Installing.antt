@@ -33,7 +33,8 @@ conflict_by (Some (Update update)) k a b j h = λ i. Conflict k a j
 
 module _ (stage : Staged) (answers : Answers) (stands : StandsFor stage answers) where
   -- the fault of a candidate
-  conflict_is : (pair : ℕ × ℕ) → IsLeastPair (is_shared stage.kinds answers) (length answers) (length stage.kinds) (Some pair) → fault_of stage.kinds answers pair.0 ≡ Conflict pair.0 pair.1 (owner_in stage pair.1)
+  conflict_is : (pair : ℕ × ℕ) → IsLeastPair (is_shared stage.kinds answers) (length answers) (length stage.kinds) (Some pair)
+      → fault_of stage.kinds answers pair.0 ≡ Conflict pair.0 pair.1 (owner_in stage pair.1)
   unfolding fault_of shared_word
   conflict_is pair least =
       let k = pair.0 in
@@ -54,7 +55,8 @@ module _ (stage : Staged) (answers : Answers) (stands : StandsFor stage answers)
   trap_is k cause at = ap (λ o. fault_by o k (shared_word stage.kinds answers k) (first_writer answers k (shared_word stage.kinds answers k))) at
 
   -- the fault that was found is that of the least faulty number
-  found_by : (candidate : Option (ℕ × ℕ)) (failed : Option (ℕ × Cause)) (fault : StepFault) → IsLeastPair (is_shared stage.kinds answers) (length answers) (length stage.kinds) candidate → IsLeastFailed answers failed
+  found_by : (candidate : Option (ℕ × ℕ)) (failed : Option (ℕ × Cause)) (fault : StepFault) → IsLeastPair (is_shared stage.kinds answers) (length answers) (length stage.kinds) candidate
+      → IsLeastFailed answers failed
       → fault_of_found candidate failed (owner_in stage) ≡ Some fault
       → (least_found (length answers) candidate failed < length answers) × (fault_of stage.kinds answers (least_found (length answers) candidate failed) ≡ fault)
   found_by None None fault pair failed is = absurd (cc)
@@ -87,18 +89,23 @@ module _ (stage : Staged) (answers : Answers) (stands : StandsFor stage answers)
         let named : fault_of (kinds_of memory) answers (least_faulty (kinds_of memory) answers) ≡ fault = (λ i. fault_of (sym kinds i) answers (at i)) ∙ found.1 in
         after_fault memory answers (omega (arith, at, found.0)) ∙ ap (λ f. Err f) named
 
-    sound : fault_of_found stage.candidate stage.failed (owner_in stage) ≡ None → after memory answers ≡ unless_outside (position is_outside (merged_memory memory answers)) (merged_memory memory answers)
+    sound : fault_of_found stage.candidate stage.failed (owner_in stage) ≡ None → after memory answers ≡ unless_outside (position is_outside (merged_memory memory answers))
+        (merged_memory memory answers)
     unfolding after
     sound none =
-        let at : least_faulty (kinds_of memory) answers ≡ length answers = ap (λ ks. least_faulty ks answers) (sym kinds) ∙ (least_is_kept stage answers stands ∙ none_by stage.candidate stage.failed none) in
-        ap (λ b. cond b (Err (fault_of (kinds_of memory) answers (least_faulty (kinds_of memory) answers))) (unless_outside (position is_outside (merged_memory memory answers)) (merged_memory memory answers))) (le-ltb _ _ (omega (arith, at)))
+        let at : least_faulty (kinds_of memory) answers ≡ length answers = ap (λ ks. least_faulty ks answers) (sym kinds)
+        ∙ (least_is_kept stage answers stands ∙ none_by stage.candidate stage.failed none) in
+        ap (λ b. cond b (Err (fault_of (kinds_of memory) answers (least_faulty (kinds_of memory) answers)))
+        (unless_outside (position is_outside (merged_memory memory answers)) (merged_memory memory answers))) (le-ltb _ _ (omega (arith, at)))
 
-    pub ends_in_total : (word : ℕ) → fault_of_found stage.candidate stage.failed (owner_in stage) ≡ None → Some word ≡ position is_outside (left_memory (left_by stage) memory) → after memory answers ≡ Err (Total word)
+    pub ends_in_total : (word : ℕ) → fault_of_found stage.candidate stage.failed (owner_in stage) ≡ None → Some word ≡ position is_outside (left_memory (left_by stage) memory)
+        → after memory answers ≡ Err (Total word)
     ends_in_total word none found =
         let at : position is_outside (merged_memory memory answers) ≡ Some word = ap (λ m. position is_outside m) (sym (left_is_after stage answers stands memory kinds)) ∙ sym found in
         sound none ∙ ap (λ o. unless_outside o (merged_memory memory answers)) at
 
-    pub ends_merged : (later : Memory) → fault_of_found stage.candidate stage.failed (owner_in stage) ≡ None → None ≡ position is_outside (left_memory (left_by stage) memory) → later ≡ left_memory (left_by stage) memory → after memory answers ≡ Ok later
+    pub ends_merged : (later : Memory) → fault_of_found stage.candidate stage.failed (owner_in stage) ≡ None → None ≡ position is_outside (left_memory (left_by stage) memory)
+        → later ≡ left_memory (left_by stage) memory → after memory answers ≡ Ok later
     ends_merged later none inside is =
         let same = left_is_after stage answers stands memory kinds in
         let at : position is_outside (merged_memory memory answers) ≡ None = ap (λ m. position is_outside m) (sym same) ∙ sym inside in
@@ -116,7 +123,8 @@ module _ (stage : Staged) (answers : Answers) (stands : StandsFor stage answers)
       by (Some p) (Some (k, cause)) pair fails is = (omega (arith, pair.0), is)
 
 -- the least number that was found is one of the routines
-pub least_below_size : (n words : ℕ) (candidate : Option (ℕ × ℕ)) (failed : Option (ℕ × Cause)) → ForSome candidate (λ pair. (pair.0 < n) × (pair.1 < words)) → ForSome failed (λ f. f.0 < n) → ForSome (least_in candidate failed) (λ k. k < n)
+pub least_below_size : (n words : ℕ) (candidate : Option (ℕ × ℕ)) (failed : Option (ℕ × Cause)) → ForSome candidate (λ pair. (pair.0 < n) × (pair.1 < words)) → ForSome failed (λ f. f.0 < n)
+    → ForSome (least_in candidate failed) (λ k. k < n)
 least_below_size n words None None pair first = λ k is. absurd (cc)
 least_below_size n words (Some p) None pair first = λ k is. let same : p.0 ≡ k = cc in omega (arith, (pair p refl).0)
 least_below_size n words None (Some f) pair first = λ k is. let same : f.0 ≡ k = cc in omega (arith, first f refl)

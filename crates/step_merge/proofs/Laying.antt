@@ -1,5 +1,6 @@
 -- What a stage stands for after one entry more, and after one answer more.
-use Rattle.std.proofs.Common.{◌≡◌, ℕ, zero, suc, ◌+◌, ◌<◌, ◌≤◌, ℤ, pos, ◌+ℤ◌, Bool, true, false, cond, ◌&&◌, ◌||◌, ltb, eqb, min, max, List, [], ◌∷◌, length, set, get_or, refl, sym, ap, ◌∙◌, subst, ⊎_elim, arith, Option, Some, None}
+use Rattle.std.proofs.Common.{◌≡◌, ℕ, zero, suc, ◌+◌, ◌<◌, ◌≤◌, ℤ, pos, ◌+ℤ◌, Bool, true, false, cond, ◌&&◌, ◌||◌, ltb, eqb, min, max, List, [], ◌∷◌, length, set, get_or, refl, sym, ap, ◌∙◌, subst}
+use Rattle.std.proofs.Common.{⊎_elim, arith, Option, Some, None}
 use Rattle.std.specs.Prelude.{is_some}
 use Rattle.std.specs.Option.{unwrap_or}
 use Rattle.std.specs.FinMap.{get, insert, empty, get-empty}
@@ -94,7 +95,8 @@ same_entries stage xs ys size same keeps =
           ∙ (ap (λ o. unwrap_or o (pos 0)) (sym (same (first_writer xs (length xs) a) a h))
           ∙ ap (λ j. addend a (answer_of ys j)) (writer a h));
       sum = λ a h tally. keeps.sum a h tally ∙ sym (sum_same xs ys a size (λ j. same j a h) (pos 0));
-      candidate = pair_same (is_shared stage.kinds xs) (is_shared stage.kinds ys) (length xs) (length ys) (length stage.kinds) stage.candidate size (λ k a h. shared_same stage.kinds xs ys k a (λ j. same j a h)) keeps.candidate;
+      candidate = pair_same (is_shared stage.kinds xs) (is_shared stage.kinds ys) (length xs) (length ys) (length stage.kinds) stage.candidate size
+          (λ k a h. shared_same stage.kinds xs ys k a (λ j. same j a h)) keeps.candidate;
     }
 
 -- ---- one entry more
@@ -121,7 +123,8 @@ value_at_set true values a v within = get_or-set_same values a v (pos 0) within
 value_at_set false values a v within = refl
 
 -- number k has these entries, and one more for word a
-module _ (stage : Staged) (xs : Answers) (k a : ℕ) (v : ℤ) (kept : Written) (at : answer_of xs k ≡ Some (Update kept)) (free : get kept a ≡ None) (word : a < length stage.kinds) (keeps : KeepsEntries stage xs) (size : size_of stage ≡ length xs) (owners : length stage.owners ≡ length stage.kinds) (values : length stage.values ≡ length stage.kinds) where
+module _ (stage : Staged) (xs : Answers) (k a : ℕ) (v : ℤ) (kept : Written) (at : answer_of xs k ≡ Some (Update kept)) (free : get kept a ≡ None) (word : a < length stage.kinds)
+    (keeps : KeepsEntries stage xs) (size : size_of stage ≡ length xs) (owners : length stage.owners ≡ length stage.kinds) (values : length stage.values ≡ length stage.kinds) where
   ys : Answers
   ys = set xs k (Some (Update (insert kept a v)))
 
@@ -210,7 +213,8 @@ module _ (stage : Staged) (xs : Answers) (k a : ℕ) (v : ℤ) (kept : Written) 
       ∙ (ap (λ o. addend a o) (sym (ys_other y not_owner)) ∙ ap (λ j. addend a (answer_of ys j)) (sym is)))))
       (cases_lt k y)
 
-  second_now : (j : ℕ) → is_second (λ i. is_some (entry_in (answer_of ys i) a)) j ≡ (is_second (λ i. is_some (entry_in (answer_of xs i) a)) j || (ltb (owner_in stage a) (size_of stage) && eqb j (max k (owner_in stage a))))
+  second_now : (j : ℕ) → is_second (λ i. is_some (entry_in (answer_of ys i) a)) j ≡ (is_second (λ i. is_some (entry_in (answer_of xs i) a)) j ||
+      (ltb (owner_in stage a) (size_of stage) && eqb j (max k (owner_in stage a))))
   second_now j =
       let y = owner_in stage a in
       let was : (ℕ → Bool) = λ i. is_some (entry_in (answer_of xs i) a) in
@@ -232,7 +236,8 @@ module _ (stage : Staged) (xs : Answers) (k a : ℕ) (v : ℤ) (kept : Written) 
       (cases_lt j (length xs))
 
   -- which pairs pass now
-  shared_now : is_ordinary stage.kinds a ≡ true → (j b : ℕ) → is_shared stage.kinds ys j b ≡ (is_shared stage.kinds xs j b || ((ltb (owner_in stage a) (size_of stage) && eqb j (max k (owner_in stage a))) && eqb b a))
+  shared_now : is_ordinary stage.kinds a ≡ true → (j b : ℕ) → is_shared stage.kinds ys j b ≡
+      (is_shared stage.kinds xs j b || ((ltb (owner_in stage a) (size_of stage) && eqb j (max k (owner_in stage a))) && eqb b a))
   shared_now ordinary j b =
       let new = ltb (owner_in stage a) (size_of stage) && eqb j (max k (owner_in stage a)) in
       ⊎_elim
@@ -387,7 +392,8 @@ module _ (stage : Staged) (k : ℕ) (in_range : k < size_of stage) (undone : is_
     size_more : length (set stage.laid k true) ≡ length (set xs k (Some answer))
     size_more = length-set stage.laid k true ∙ (stands.size ∙ sym (length-set xs k (Some answer)))
 
-  least_failed : (xs : Answers) → StandsFor stage xs → (cause : Cause) (found : Option (ℕ × Cause)) → IsLeastFailed xs found → IsLeastFailed (set xs k (Some (Fault cause))) (Some (lesser_failed found k cause))
+  least_failed : (xs : Answers) → StandsFor stage xs → (cause : Cause) (found : Option (ℕ × Cause)) → IsLeastFailed xs found
+      → IsLeastFailed (set xs k (Some (Fault cause))) (Some (lesser_failed found k cause))
   least_failed xs stands cause None least = (
     now_at xs stands (Fault cause),
     λ j l. ap is_fault (now_other xs stands (Fault cause) j (λ e. omega arith)) ∙ least j,
@@ -503,7 +509,8 @@ pub record IsLaidTo (before now : Staged) (k : ℕ) (update : Written) (from : �
 abbrev pub LaidTo : Staged → Staged → ℕ → Written → ℕ → Type 0
 LaidTo before now k update from = (kept : Written) × IsLaidTo before now k update from kept
 
-pub laid_first : (before : Staged) (k : ℕ) (update : Written) → k < size_of before → is_laid before k ≡ false → length before.owners ≡ length before.kinds → length before.values ≡ length before.kinds → ((a : ℕ) → HasRoom (with_laid before k) a) → LaidTo before (with_laid before k) k update 0
+pub laid_first : (before : Staged) (k : ℕ) (update : Written) → k < size_of before → is_laid before k ≡ false → length before.owners ≡ length before.kinds → length before.values ≡ length before.kinds
+    → ((a : ℕ) → HasRoom (with_laid before k) a) → LaidTo before (with_laid before k) k update 0
 laid_first before k update in_range undone owners values room = (
   empty,
   record {
@@ -525,7 +532,8 @@ room_other now next a laid value room = record {
 }
 
 module _ (before now : Staged) (k : ℕ) (update : Written) (from a : ℕ) (v : ℤ) (in_range : k < size_of before) (next_is : IsNextFrom update from (Some (a, v))) (word : a < length now.kinds) where
-  module _ (kept : Written) (is : IsLaidTo before now k update from kept) (next : Staged) (kinds : next.kinds ≡ now.kinds) (laid : next.laid ≡ now.laid) (failed : next.failed ≡ now.failed) (owners : length next.owners ≡ length now.owners) (values : length next.values ≡ length now.values)
+  module _ (kept : Written) (is : IsLaidTo before now k update from kept) (next : Staged) (kinds : next.kinds ≡ now.kinds) (laid : next.laid ≡ now.laid) (failed : next.failed ≡ now.failed)
+      (owners : length next.owners ≡ length now.owners) (values : length next.values ≡ length now.values)
       (others : (b : ℕ) → (b ≡ a → ⊥) → value_in next b ≡ value_in now b)
       (keeps : (xs : Answers) → answer_of xs k ≡ Some (Update kept) → StandsFor now xs → KeepsEntries next (set xs k (Some (Update (insert kept a v))))) where
     laid_next : LaidTo before next k update (a + 1)
@@ -573,7 +581,8 @@ module _ (before now : Staged) (k : ℕ) (update : Written) (from a : ℕ) (v : 
       (λ b apart. get_or-set_other now.values a b (value_in now a +ℤ v) (pos 0) apart)
       (λ xs at stands. sums_more now xs k a v kept at (free_here kept is.copied) word (keeps_of xs stands) stands.size is.owners is.values tally)
 
-  pub laid_entry : (next : Staged) → LaidTo before now k update from → (is_ordinary now.kinds a ≡ true → next ≡ with_write now k a v) → (is_ordinary now.kinds a ≡ false → next ≡ with_sum now k a v) → LaidTo before next k update (a + 1)
+  pub laid_entry : (next : Staged) → LaidTo before now k update from → (is_ordinary now.kinds a ≡ true → next ≡ with_write now k a v) → (is_ordinary now.kinds a ≡ false → next ≡ with_sum now k a v)
+      → LaidTo before next k update (a + 1)
   laid_entry next so_far writes sums =
       ⊎_elim
       (λ (ordinary : is_ordinary now.kinds a ≡ true). subst (λ s. LaidTo before s k update (a + 1)) (sym (writes ordinary)) (laid_write so_far ordinary))
@@ -581,7 +590,8 @@ module _ (before now : Staged) (k : ℕ) (update : Written) (from a : ℕ) (v : 
       (cases_Bool (is_ordinary now.kinds a))
 
 -- where the rest has no entry for a word, all is laid
-pub laid_all : (before now : Staged) (k : ℕ) (update : Written) (from : ℕ) → k < size_of before → LaidTo before now k update from → ((a : ℕ) → from ≤ a → a < length now.kinds → get update a ≡ None) → LaysAt before now k (Update update)
+pub laid_all : (before now : Staged) (k : ℕ) (update : Written) (from : ℕ) → k < size_of before → LaidTo before now k update from → ((a : ℕ) → from ≤ a → a < length now.kinds → get update a ≡ None)
+    → LaysAt before now k (Update update)
 laid_all before now k update from in_range so_far none =
     let kept = so_far.0 in
     let is = so_far.1 in

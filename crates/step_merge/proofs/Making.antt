@@ -43,7 +43,8 @@ module _ (kinds : List WordKind) (words n : ℕ) (size : length kinds ≡ words)
     owner = λ a h.
         get_or-replicate words a n (length (replicate n false)) (omega arith)
         ∙ (sym (length-replicate {A = Option Answer} n None)
-        ∙ sym (least_at (length (replicate {A = Option Answer} n None)) (λ j. is_some (entry_in (answer_of (replicate n None) j) a)) (length (replicate {A = Option Answer} n None)) (omega arith) (λ j _. ap (λ o. is_some o) (none_writes j a)) (λ h. absurd (omega arith))));
+        ∙ sym (least_at (length (replicate {A = Option Answer} n None)) (λ j. is_some (entry_in (answer_of (replicate n None) j) a)) (length (replicate {A = Option Answer} n None)) (omega arith)
+        (λ j _. ap (λ o. is_some o) (none_writes j a)) (λ h. absurd (omega arith))));
     value = λ a _. no_value words a ∙ sym (ap (λ o. addend a o) (no_answer n (first_writer (replicate n None) (length (replicate {A = Option Answer} n None)) a)));
     sum = λ a _ _. no_value words a ∙ sym (nothing_added (replicate n None) a (λ j. none_writes j a) (pos 0));
     candidate = λ k a _ _. unshared k a;

@@ -1,5 +1,6 @@
 -- Word by word, the memory with something left in its words.
-use Rattle.std.proofs.Common.{◌≡◌, ◌<◌, ◌≤◌, ◌+◌, ◌^◌, ℕ, zero, suc, ℤ, pos, negsuc, length, set, get_or, map, List, [], ◌∷◌, Option, None, Some, ◌∙◌, sym, ap, refl, arith, Bool, true, false, cond, ltb, not, ◌&&◌, SFits, w64, add-one, add-zero, ⊎_elim, subst}
+use Rattle.std.proofs.Common.{◌≡◌, ◌<◌, ◌≤◌, ◌+◌, ◌^◌, ℕ, zero, suc, ℤ, pos, negsuc, length, set, get_or, map, List, [], ◌∷◌, Option, None, Some, ◌∙◌, sym, ap, refl, arith, Bool, true, false, cond}
+use Rattle.std.proofs.Common.{ltb, not, ◌&&◌, SFits, w64, add-one, add-zero, ⊎_elim, subst}
 use Rattle.std.proofs.lemmas.List.{get_or_past, get_or-set_other}
 use Rattle.std.specs.Prelude.{slice_get, is_some}
 use Rattle.std.specs.Option.{option_map_or, unwrap_or}
@@ -76,7 +77,8 @@ module _ (left : Left) where
   value-partly base (suc a) [] = refl
   value-partly base (suc a) (word ∷ memory) = value-partly (base + 1) a memory
 
-  partly_more : (base a : ℕ) (memory : Memory) (kind : WordKind) → slice_get (kinds_of memory) a ≡ Some kind → with_value (partly_left base a memory) a (left kind (base + a) (value_at memory a)) ≡ partly_left base (suc a) memory
+  partly_more : (base a : ℕ) (memory : Memory) (kind : WordKind) → slice_get (kinds_of memory) a ≡ Some kind
+      → with_value (partly_left base a memory) a (left kind (base + a) (value_at memory a)) ≡ partly_left base (suc a) memory
   partly_more base zero [] kind at = refl
   partly_more base (suc a) [] kind at = refl
   partly_more base zero (word ∷ memory) kind at =
@@ -88,7 +90,8 @@ module _ (left : Left) where
       ap (λ (p : ℕ). with_value (partly_left base (suc a) (word ∷ memory)) (suc a) (left kind p (value_at memory a))) place
       ∙ (let rest = partly_more (base + 1) a memory kind at in λ i. left_word left base word ∷ rest i)
 
-  outside_from : (base k : ℕ) (memory : Memory) (d : Word) → k < length memory → is_outside (get_or (left_from base memory) k d) ≡ option_map_or (λ word. is_outside (left_word left (base + k) word)) (slice_get memory k) false
+  outside_from : (base k : ℕ) (memory : Memory) (d : Word) → k < length memory → is_outside (get_or (left_from base memory) k d) ≡ option_map_or (λ word. is_outside (left_word left (base + k) word))
+      (slice_get memory k) false
   outside_from base k [] d within = absurd (omega arith)
   outside_from base zero (word ∷ memory) d within = ap (λ (p : ℕ). is_outside (left_word left p word)) (sym (add-zero base))
   outside_from base (suc k) (word ∷ memory) d within =
@@ -100,7 +103,8 @@ module _ (left : Left) where
 pub merged_all : (memory : Memory) (left : Left) (a : ℕ) → a ≡ length memory → partly_left left 0 a memory ≡ left_memory left memory
 merged_all memory left a e = ap (λ n. partly_left left 0 n memory) e ∙ partly_all left 0 memory
 
-pub merged_more : (memory : Memory) (left : Left) (a : ℕ) (kind : WordKind) (v : ℤ) → slice_get (kinds_of memory) a ≡ Some kind → v ≡ left kind a (value_at memory a) → with_value (partly_left left 0 a memory) a v ≡ partly_left left 0 (a + 1) memory
+pub merged_more : (memory : Memory) (left : Left) (a : ℕ) (kind : WordKind) (v : ℤ) → slice_get (kinds_of memory) a ≡ Some kind → v ≡ left kind a (value_at memory a)
+    → with_value (partly_left left 0 a memory) a v ≡ partly_left left 0 (a + 1) memory
 merged_more memory left a kind v at is =
     let place : a ≡ 0 + a = omega arith in
     ap (λ x. with_value (partly_left left 0 a memory) a x) (is ∙ ap (λ p. left kind p (value_at memory a)) place)
@@ -117,11 +121,13 @@ length-merged memory left = length-left_from left 0 memory
 abbrev no_word : Word
 no_word = record { kind = Ordinary; value = pos 0 }
 
-pub outside_found : (memory : Memory) (left : Left) (a : ℕ) → a < length memory → ((i : ℕ) → i < a → is_outside_word left memory i ≡ false) → is_outside_word left memory a ≡ true → Some a ≡ position is_outside (left_memory left memory)
+pub outside_found : (memory : Memory) (left : Left) (a : ℕ) → a < length memory → ((i : ℕ) → i < a → is_outside_word left memory i ≡ false) → is_outside_word left memory a ≡ true
+    → Some a ≡ position is_outside (left_memory left memory)
 outside_found memory left a within none passes =
     let size = length-merged memory left in
     let at : position_or_len is_outside (left_memory left memory) ≡ a =
-    position_or_len_is is_outside (left_memory left memory) a no_word (omega arith) (λ k h. outside_at memory left k no_word (omega arith) ∙ none k h) (λ _. outside_at memory left a no_word within ∙ passes)
+    position_or_len_is is_outside (left_memory left memory) a no_word (omega arith) (λ k h. outside_at memory left k no_word (omega arith) ∙ none k h)
+    (λ _. outside_at memory left a no_word within ∙ passes)
     in
     let below : ltb (position_or_len is_outside (left_memory left memory)) (length (left_memory left memory)) ≡ true = lt-ltb _ _ (omega arith) in
     sym (ap (λ b. cond b (Some (position_or_len is_outside (left_memory left memory))) None) below ∙ ap (λ n. Some n) at)
@@ -148,17 +154,20 @@ inside_each memory left a none within =
     sym (outside_at memory left a no_word within) ∙ fails_before_first is_outside (left_memory left memory) a no_word (omega arith))
     (cases_lt p (length (left_memory left memory)))
 
-outside_of : (kind : WordKind) (left : Left) (memory : Memory) (a : ℕ) → slice_get (kinds_of memory) a ≡ Some kind → is_outside_word left memory a ≡ (has_total kind && not (fits_word (left kind a (value_at memory a))))
+outside_of : (kind : WordKind) (left : Left) (memory : Memory) (a : ℕ) → slice_get (kinds_of memory) a ≡ Some kind
+    → is_outside_word left memory a ≡ (has_total kind && not (fits_word (left kind a (value_at memory a))))
 outside_of kind left memory a at = step memory a at (λ k v. has_total k && not (fits_word (left k a v)))
   where
-    step : (memory : Memory) (i : ℕ) → slice_get (kinds_of memory) i ≡ Some kind → (f : WordKind → ℤ → Bool) → option_map_or (λ word. f word.kind word.value) (slice_get memory i) false ≡ f kind (value_at memory i)
+    step : (memory : Memory) (i : ℕ) → slice_get (kinds_of memory) i ≡ Some kind → (f : WordKind → ℤ → Bool)
+        → option_map_or (λ word. f word.kind word.value) (slice_get memory i) false ≡ f kind (value_at memory i)
     step [] zero at f = absurd (cc)
     step [] (suc i) at f = absurd (cc)
     step (word ∷ memory) zero at f = let same : word.kind ≡ kind = cc in λ j. f (same j) word.value
     step (word ∷ memory) (suc i) at f = step memory i at f
 
 -- a value that is inside fits 64 bits
-pub inside_fits : (memory : Memory) (left : Left) (a : ℕ) (kind : WordKind) (v : ℤ) → slice_get (kinds_of memory) a ≡ Some kind → is_outside_word left memory a ≡ false → v ≡ left kind a (value_at memory a) → (has_one_writer kind ≡ true → fits_word v ≡ true) → SFits w64 v
+pub inside_fits : (memory : Memory) (left : Left) (a : ℕ) (kind : WordKind) (v : ℤ) → slice_get (kinds_of memory) a ≡ Some kind → is_outside_word left memory a ≡ false
+    → v ≡ left kind a (value_at memory a) → (has_one_writer kind ≡ true → fits_word v ≡ true) → SFits w64 v
 inside_fits memory left a Ordinary v at inside is one = fits_of v (one refl)
 inside_fits memory left a Tally v at inside is one =
     let no : not (fits_word v) ≡ false = ap (λ x. not (fits_word x)) is ∙ (sym (outside_of Tally left memory a at) ∙ inside) in
@@ -188,7 +197,8 @@ with_value_same (word ∷ memory) (suc a) v is = let rest = with_value_same memo
 
 -- ---- what the answers leave
 
-left_same_from : (l r : Left) (base : ℕ) (memory : Memory) → ((i : ℕ) (word : Word) → slice_get memory i ≡ Some word → l word.kind (base + i) word.value ≡ r word.kind (base + i) word.value) → left_from l base memory ≡ left_from r base memory
+left_same_from : (l r : Left) (base : ℕ) (memory : Memory) → ((i : ℕ) (word : Word) → slice_get memory i ≡ Some word → l word.kind (base + i) word.value ≡ r word.kind (base + i) word.value)
+    → left_from l base memory ≡ left_from r base memory
 left_same_from l r base [] same = refl
 left_same_from l r base (word ∷ memory) same =
     let here : l word.kind base word.value ≡ r word.kind base word.value = subst (λ (p : ℕ). l word.kind p word.value ≡ r word.kind p word.value) (add-zero base) (same 0 word refl) in
@@ -271,12 +281,14 @@ module _ (stage : Staged) (memory : Memory) (a : ℕ) where
   pub ordinary_inside : slice_get (kinds_of memory) a ≡ Some Ordinary → false ≡ is_outside_word (left_by stage) memory a
   ordinary_inside at = sym (outside_of Ordinary (left_by stage) memory a at)
 
-  pub outside_if : slice_get (kinds_of memory) a ≡ Some Tally → (is_entered : Bool) (total : ℤ) → is_entered ≡ has_owner stage a → fits_word (value_at memory a) ≡ true → total ≡ entered Tally stage a (value_at memory a)
+  pub outside_if : slice_get (kinds_of memory) a ≡ Some Tally → (is_entered : Bool) (total : ℤ) → is_entered ≡ has_owner stage a → fits_word (value_at memory a) ≡ true
+      → total ≡ entered Tally stage a (value_at memory a)
       → (is_entered && not (fits_word total)) ≡ is_outside_word (left_by stage) memory a
   outside_if at true total is fits same = ap (λ v. not (fits_word v)) (same ∙ sym (by_owner Tally (value_at memory a) (sym is))) ∙ sym (outside_of Tally (left_by stage) memory a at)
   outside_if at false total is fits same = sym (outside_of Tally (left_by stage) memory a at ∙ (ap (λ v. not (fits_word v)) (without_owner Tally (value_at memory a) (sym is)) ∙ ap (λ b. not b) fits))
 
-  one_fits : (kind : WordKind) (v : ℤ) → slice_get stage.kinds a ≡ Some kind → v ≡ entered kind stage a (value_at memory a) → (is_ordinary stage.kinds a ≡ true → fits_word (value_in stage a) ≡ true) → has_one_writer kind ≡ true → fits_word v ≡ true
+  one_fits : (kind : WordKind) (v : ℤ) → slice_get stage.kinds a ≡ Some kind → v ≡ entered kind stage a (value_at memory a) → (is_ordinary stage.kinds a ≡ true → fits_word (value_in stage a) ≡ true)
+      → has_one_writer kind ≡ true → fits_word v ≡ true
   one_fits Ordinary v at is fits one = ap fits_word is ∙ fits (ap (λ o. option_map_or has_one_writer o false) at)
   one_fits Tally v at is fits one = absurd (cc)
 
@@ -287,7 +299,8 @@ module _ (stage : Staged) (memory : Memory) (a : ℕ) where
       let at : slice_get (kinds_of memory) a ≡ Some kind = kind_there memory a kind within is in
       inside_fits memory (left_by stage) a kind v at inside (same ∙ sym (by_owner kind (value_at memory a) on)) (one_fits kind v (ap (λ ks. slice_get ks a) kinds ∙ at) same fits)
 
-  pub written_left : (kind : WordKind) (x v : ℤ) → kind ≡ kind_at memory a → x ≡ value_at memory a → has_owner stage a ≡ true → v ≡ entered kind stage a x → v ≡ left_by stage (kind_at memory a) a (value_at memory a)
+  pub written_left : (kind : WordKind) (x v : ℤ) → kind ≡ kind_at memory a → x ≡ value_at memory a → has_owner stage a ≡ true → v ≡ entered kind stage a x
+      → v ≡ left_by stage (kind_at memory a) a (value_at memory a)
   written_left kind x v is read on same = same ∙ ((λ i. entered (is i) stage a (read i)) ∙ sym (by_owner (kind_at memory a) (value_at memory a) on))
 
   pub kept_left : has_owner stage a ≡ false → memory ≡ with_value memory a (left_by stage (kind_at memory a) a (value_at memory a))

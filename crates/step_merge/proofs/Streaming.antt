@@ -1,5 +1,6 @@
 -- Why a stage needs no updates: one writer more changes one candidate.
-use Rattle.std.proofs.Common.{◌≡◌, ℕ, zero, suc, ℤ, pos, ◌+ℤ◌, List, [], ◌∷◌, ◌<◌, ◌≤◌, Bool, true, false, ◌&&◌, ◌||◌, ltb, eqb, min, max, cond, inl, inr, ◌⊎◌, refl, sym, ap, ◌∙◌, ⊎_elim, arith, length, Option, Some, None}
+use Rattle.std.proofs.Common.{◌≡◌, ℕ, zero, suc, ℤ, pos, ◌+ℤ◌, List, [], ◌∷◌, ◌<◌, ◌≤◌, Bool, true, false, ◌&&◌, ◌||◌, ltb, eqb, min, max, cond, inl, inr, ◌⊎◌, refl, sym, ap, ◌∙◌, ⊎_elim, arith}
+use Rattle.std.proofs.Common.{length, Option, Some, None}
 use Rattle.std.proofs.lemmas.Bool.{cases_lt, cases_eq, cases_Bool, both_ways, lt-ltb, le-ltb, ltb-true, eqb-true, eq-eqb, ne_eqb, and_from, and_parts, or_cases, or_left, or_right}
 use Rattle.std.specs.Prelude.{is_some}
 use Rattle.std.specs.Option.{unwrap_or}
@@ -26,7 +27,8 @@ owner_rule n x before now within writes =
     (λ (h : y ≤ x).
     let there : before y ≡ true = at_least n before (omega arith) in
     let apart : y ≡ x → ⊥ = λ e. both_ways (before x) writes.was (ap before (sym e) ∙ there) in
-    least_at n now (min x y) (omega arith) (λ k l. writes.others k (λ e. apart (omega arith)) ∙ below_least n before k (omega arith)) (λ _. let e : min x y ≡ y = omega arith in ap now e ∙ (writes.others y apart ∙ there)))
+    least_at n now (min x y) (omega arith) (λ k l. writes.others k (λ e. apart (omega arith)) ∙ below_least n before k (omega arith))
+    (λ _. let e : min x y ≡ y = omega arith in ap now e ∙ (writes.others y apart ∙ there)))
     (cases_lt x y)
 
 -- whether somebody below k wrote shows in the owner
@@ -108,11 +110,13 @@ candidate_rule n x before now within writes k in_range =
 
 -- ---- the least faulty number is the lesser of the candidate and of what failed
 
-sound : (kinds : List WordKind) (answers : Answers) (k : ℕ) → is_fault (answer_of answers k) ≡ false → ((a : ℕ) → a < length kinds → is_shared kinds answers k a ≡ false) → is_faulty kinds answers k ≡ false
+sound : (kinds : List WordKind) (answers : Answers) (k : ℕ) → is_fault (answer_of answers k) ≡ false → ((a : ℕ) → a < length kinds → is_shared kinds answers k a ≡ false)
+    → is_faulty kinds answers k ≡ false
 unfolding is_faulty shared_word
 sound kinds answers k whole alone =
     or_false _ _ whole
-    (le-ltb _ _ (let is : least_below (length kinds) (is_shared kinds answers k) ≡ length kinds = least_at (length kinds) (is_shared kinds answers k) (length kinds) (omega arith) alone (λ h. absurd (omega arith)) in omega arith))
+    (le-ltb _ _ (let is : least_below (length kinds) (is_shared kinds answers k) ≡ length kinds = least_at (length kinds) (is_shared kinds answers k) (length kinds) (omega arith) alone
+    (λ h. absurd (omega arith)) in omega arith))
 
 shares : (kinds : List WordKind) (answers : Answers) (k a : ℕ) → a < length kinds → is_shared kinds answers k a ≡ true → is_faulty kinds answers k ≡ true
 unfolding is_faulty shared_word
@@ -129,7 +133,8 @@ answered_within [] k answer at = absurd (cc)
 answered_within (o ∷ answers) zero answer at = omega arith
 answered_within (o ∷ answers) (suc k) answer at = omega (arith, answered_within answers k answer at)
 
-least_of : (kinds : List WordKind) (answers : Answers) (candidate : Option (ℕ × ℕ)) (failed : Option (ℕ × Cause)) → IsLeastPair (is_shared kinds answers) (length answers) (length kinds) candidate → IsLeastFailed answers failed → least_faulty kinds answers ≡ least_found (length answers) candidate failed
+least_of : (kinds : List WordKind) (answers : Answers) (candidate : Option (ℕ × ℕ)) (failed : Option (ℕ × Cause)) → IsLeastPair (is_shared kinds answers) (length answers) (length kinds) candidate
+    → IsLeastFailed answers failed → least_faulty kinds answers ≡ least_found (length answers) candidate failed
 least_of kinds answers None None alone whole =
     least_faulty_at kinds answers (length answers) (omega arith) (λ k l. sound kinds answers k (whole k) (λ a h. alone k a l h)) (λ h. absurd (omega arith))
 least_of kinds answers (Some pair) None alone whole =
@@ -162,7 +167,8 @@ value_is_kept stage answers stands a value = (
 -- ---- the least candidate
 
 -- what did not pass and is not the new pair does not pass
-still_not : (before now : ℕ → ℕ → Bool) (pair : ℕ × ℕ) → ((k a : ℕ) → now k a ≡ (before k a || (eqb k pair.0 && eqb a pair.1))) → (k a : ℕ) → before k a ≡ false → (k ≡ pair.0 → a ≡ pair.1 → ⊥) → now k a ≡ false
+still_not : (before now : ℕ → ℕ → Bool) (pair : ℕ × ℕ) → ((k a : ℕ) → now k a ≡ (before k a || (eqb k pair.0 && eqb a pair.1))) → (k a : ℕ) → before k a ≡ false → (k ≡ pair.0 → a ≡ pair.1 → ⊥)
+    → now k a ≡ false
 still_not before now pair more k a none apart =
     more k a ∙ or_false _ _ none
     (⊎_elim
@@ -198,7 +204,8 @@ candidate_kept n words before now None pair within within_words least more = (
   λ a l. still_not before now pair more pair.0 a (least pair.0 a within (omega arith)) (λ _ e. omega arith),
 )
 candidate_kept n words before now (Some found) pair within within_words least more =
-    elim (ltb pair.0 found.0 || (eqb pair.0 found.0 && ltb pair.1 found.1)) as (λ b. (ltb pair.0 found.0 || (eqb pair.0 found.0 && ltb pair.1 found.1)) ≡ b → IsLeastPair now n words (Some (cond b pair found))) [
+    elim (ltb pair.0 found.0 || (eqb pair.0 found.0 && ltb pair.1 found.1)) as (λ b. (ltb pair.0 found.0 || (eqb pair.0 found.0 && ltb pair.1 found.1)) ≡ b
+    → IsLeastPair now n words (Some (cond b pair found))) [
       | true ↦ λ e.
           let low : pair.0 ≤ found.0 = ⊎_elim (λ (l : pair.0 < found.0). omega arith) (λ (r : (pair.0 ≡ found.0) × (pair.1 < found.1)). omega (arith, r.0)) (lesser_cases pair found e) in (
             within,

@@ -1,5 +1,6 @@
 -- Why a stage needs to keep no update.
-use Rattle.std.specs.Prelude.{◌≡◌, ℕ, ◌<◌, Bool, ◌&&◌, ◌||◌, ◌==◌, nat_lt, if◌then◌else◌, min, max, IsTrue, IsFalse, length, is_some, ℤ, ◌+ℤ◌, Option, Some, None}
+use Rattle.std.specs.Prelude.{◌≡◌, ℕ, ◌<◌, Bool, ◌&&◌, ◌||◌, ◌==◌, nat_lt, if◌then◌else◌, min, max, IsTrue, IsFalse, length, is_some, ℤ}
+use Rattle.std.specs.Prelude.{◌+ℤ◌, Option, Some, None}
 use Rattle.cal_terms.specs.declared.kinds.WordKind.TheVariants.{Ordinary, Tally}
 use Rattle.cal_base.specs.declared.ends.Cause.{Cause}
 use Rattle.cal_base.specs.Numbers.{least_below}
@@ -25,7 +26,8 @@ LeastIsKept =
 abbrev pub ValueIsKept : Type 0
 ValueIsKept =
     (stage : Staged) (answers : Answers) → StandsFor stage answers → (a : ℕ) (value : ℤ)
-    → (IsTrue (is_ordinary stage.kinds a) → IsTrue (is_some (entry_in (answer_of answers (first_writer answers (length answers) a)) a)) → value_after Ordinary answers a value ≡ value_in stage a)
+    → (IsTrue (is_ordinary stage.kinds a) → IsTrue (is_some (entry_in (answer_of answers (first_writer answers (length answers) a)) a))
+    → value_after Ordinary answers a value ≡ value_in stage a)
     × (a < length stage.kinds → IsFalse (is_ordinary stage.kinds a) → value_after Tally answers a value ≡ value +ℤ value_in stage a)
 
 -- ---- one writer more

@@ -1,5 +1,6 @@
 -- The stage's steps, as the code takes them.
-use Rattle.std.specs.Prelude.{◌≡◌, ℕ, ◌*◌, ◌^◌, ◌<◌, ◌≤◌, Bool, true, false, nat_lt, if◌then◌else◌, min, max, IsTrue, List, length, map, ℤ, pos, ◌+ℤ◌, ◌≤ℤ◌, Option, Some, None, slice_get, slice_set}
+use Rattle.std.specs.Prelude.{◌≡◌, ℕ, ◌*◌, ◌^◌, ◌<◌, ◌≤◌, Bool, true, false, nat_lt, if◌then◌else◌, min, max, IsTrue, List, length, map, ℤ}
+use Rattle.std.specs.Prelude.{pos, ◌+ℤ◌, ◌≤ℤ◌, Option, Some, None, slice_get, slice_set}
 use Rattle.std.specs.Option.{option_map_or, ForSome}
 use Rattle.std.specs.List.{count_by, enumerate_from}
 use Rattle.cal_terms.specs.declared.kinds.WordKind.{WordKind}

@@ -1,6 +1,7 @@
 //! The stage keeps no update: per word its owner and one value, and of all words the least conflict.
 
-ghost use Rattle.std.specs.Prelude.{◌≡◌, ◌&&◌, not, ◌+◌, ◌<◌, ◌≤◌, ◌*◌, ◌^◌, ℕ, None, Some, IfOk, OnErr, IsTrue, IsFalse, length, replicate, slice_set, pos, ◌+ℤ◌, ◌≤ℤ◌};
+ghost use Rattle.std.specs.Prelude.{◌≡◌, ◌&&◌, not, ◌+◌, ◌<◌, ◌≤◌, ◌*◌, ◌^◌, ℕ, None, Some, IfOk, OnErr, IsTrue, IsFalse, length};
+ghost use Rattle.std.specs.Prelude.{replicate, slice_set, pos, ◌+ℤ◌, ◌≤ℤ◌};
 ghost use Rattle.std.specs.Option.{ForSome};
 ghost use Rattle.std.specs.List.{position};
 ghost use Rattle.cal_base.specs.Arithmetic.{fits_word};
@@ -11,7 +12,8 @@ ghost use Rattle.cal_base.specs.Pages.{IsLater, page_of, version_of};
 ghost use Rattle.cal_base.specs.After.{is_outside};
 ghost use Rattle.step_merge.specs.Staged.{size_of, IsFree, StandsFor, LaysAt, IsLeastFault, Merges, KeepsPages, owner_in, value_in};
 ghost use Rattle.step_merge.specs.Laws.{is_lesser, lesser_pair};
-ghost use Rattle.step_merge.specs.Steps.{HasRoom, laid_count, candidate_with, with_laid, with_write, with_sum, with_failed, lesser_failed, least_in, fault_of_found, has_owner, entered, left_by, left_memory, is_outside_word};
+ghost use Rattle.step_merge.specs.Steps.{HasRoom, laid_count, candidate_with, with_laid, with_write, with_sum, with_failed, lesser_failed};
+ghost use Rattle.step_merge.specs.Steps.{least_in, fault_of_found, has_owner, entered, left_by, left_memory, is_outside_word};
 
 use cal_base::{Cause, Image, NoMemory, StepFault, UpdateWords, WordKind};
 use std::alloc::Global;
@@ -382,7 +384,8 @@ impl Stage {
         requires word { a < length image.old.memory }
         requires entered { IsTrue (has_owner self.now a) }
         requires inside { IsFalse (is_outside_word (left_by self.now) image.old.memory a) }
-        ensures memory { image.new.memory ≡ with_value image.old.memory a (left_by self.now (kind_at image.old.memory a) a (value_at image.old.memory a)) }
+        ensures memory { image.new.memory ≡ with_value image.old.memory a
+            (left_by self.now (kind_at image.old.memory a) a (value_at image.old.memory a)) }
         ensures later { IsLater image.old image.new }
         ensures pages { (p : ℕ) → (page_of a ≡ p → ⊥) → version_of image.new p ≡ version_of image.old p }
     {
@@ -395,7 +398,8 @@ impl Stage {
         requires kinds { self.now.kinds ≡ kinds_of image.old.memory }
         requires word { a < length image.old.memory }
         requires inside { IsFalse (is_outside_word (left_by self.now) image.old.memory a) }
-        ensures memory { image.new.memory ≡ with_value image.old.memory a (left_by self.now (kind_at image.old.memory a) a (value_at image.old.memory a)) }
+        ensures memory { image.new.memory ≡ with_value image.old.memory a
+            (left_by self.now (kind_at image.old.memory a) a (value_at image.old.memory a)) }
         ensures later { IsLater image.old image.new }
         ensures pages { (p : ℕ) → (page_of a ≡ p → IsFalse (has_owner self.now a)) → version_of image.new p ≡ version_of image.old p }
     {
@@ -410,7 +414,8 @@ impl Stage {
         requires none { position is_outside (left_memory (left_by self.now) image.old.memory) ≡ None }
         ensures memory { image.new.memory ≡ left_memory (left_by self.now) image.old.memory }
         ensures later { IsLater image.old image.new }
-        ensures pages { (p : ℕ) → ((a : ℕ) → a < length self.now.kinds → page_of a ≡ p → IsFalse (has_owner self.now a)) → version_of image.new p ≡ version_of image.old p }
+        ensures pages { (p : ℕ) → ((a : ℕ) → a < length self.now.kinds → page_of a ≡ p → IsFalse (has_owner self.now a))
+            → version_of image.new p ≡ version_of image.old p }
     {
         let words = image.len();
         for a in 0..words {

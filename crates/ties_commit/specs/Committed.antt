@@ -48,10 +48,11 @@ verdict_in table who worker_arrivals step now k =
     else current_verdict table k)
 
 -- number k is done from now on, with this answer
-pub record LaysFirst (table : Progress) (stage : Staged) (k : ℕ) (answer : Answer) (later_table : Progress) (later_stage : Staged) : Type 0 where
-  pub claims : later_table.claims ≡ table.claims
-  pub done : later_table.done ≡ slice_set table.done k true
-  pub lays : LaysAt stage later_stage k answer
+pub record LaysFirst (table : Progress) (stage : Staged) (k : ℕ) (answer : Answer) (later_table : Progress) (later_stage : Staged) : Type 0
+  where
+    pub claims : later_table.claims ≡ table.claims
+    pub done : later_table.done ≡ slice_set table.done k true
+    pub lays : LaysAt stage later_stage k answer
 
 -- table and stage stay
 abbrev pub AreSame : Progress → Staged → Progress → Staged → Type 0

@@ -41,13 +41,15 @@ module _ (p : Program) (name : List ℕ) (given : List Val) (w : World) where
       ∙ ap (λ g. run_function p (calls_to p (levels - 1)) g given w) (sym e)
       ∙ ap (λ l. and_then (statements p (calls_to p (levels - 1)) nowhere f.body l w) (λ went. pure (given_back went.0))) (sym b)
 
-  pub body_stops : (levels : ℕ) (f : Function) (begun l : Locals) (h : Halt) (w' : World) → 0 < levels → Some f ≡ function_named p.functions name → begun ≡ bound (map (λ q. q.name.text) f.params) given
+  pub body_stops : (levels : ℕ) (f : Function) (begun l : Locals) (h : Halt) (w' : World) → 0 < levels → Some f ≡ function_named p.functions name
+      → begun ≡ bound (map (λ q. q.name.text) f.params) given
       → Goes (statements p (calls_to p (levels - 1)) nowhere f.body begun w) (Err h) l w' → Follows (calls_to p levels name given w) (Err h) w'
   body_stops levels f begun l NoMemory w' some e b goes = tt
   body_stops levels f begun l (Cause c) w' some e b goes =
       body_is levels f begun some e b ∙ ap (λ o. and_then o (λ went. pure (given_back went.0))) goes
 
-  pub body_gives : (levels : ℕ) (f : Function) (begun l : Locals) (e : Ending) (w' : World) → 0 < levels → Some f ≡ function_named p.functions name → begun ≡ bound (map (λ q. q.name.text) f.params) given
+  pub body_gives : (levels : ℕ) (f : Function) (begun l : Locals) (e : Ending) (w' : World) → 0 < levels → Some f ≡ function_named p.functions name
+      → begun ≡ bound (map (λ q. q.name.text) f.params) given
       → Goes (statements p (calls_to p (levels - 1)) nowhere f.body begun w) (Ok e) l w' → calls_to p levels name given w ≡ Gives (given_back e) w'
   body_gives levels f begun l e w' some is b goes =
       body_is levels f begun some is b ∙ ap (λ o. and_then o (λ went. pure (given_back went.0))) goes
@@ -63,5 +65,6 @@ found_none all list name same e = subst (λ (l : List Function). None ≡ functi
 pub begun : (params list : List Param) (locals : Locals) (given : List Val) → params ≡ list → locals ≡ bound (map (λ q. q.name.text) params) given → locals ≡ bound (map (λ q. q.name.text) list) given
 begun params list locals given same e = subst (λ (l : List Param). locals ≡ bound (map (λ q. q.name.text) l) given) same e
 
-pub run_on : (p : Program) (calls : Calls) (body list : List Stmt) (before after : Locals) (w w' : World) (r : Result Ending Halt) → body ≡ list → Goes (statements p calls nowhere body before w) r after w' → Goes (statements p calls nowhere list before w) r after w'
+pub run_on : (p : Program) (calls : Calls) (body list : List Stmt) (before after : Locals) (w w' : World) (r : Result Ending Halt) → body ≡ list
+    → Goes (statements p calls nowhere body before w) r after w' → Goes (statements p calls nowhere list before w) r after w'
 run_on p calls body list before after w w' r same g = subst (λ (l : List Stmt). Goes (statements p calls nowhere l before w) r after w') same g

@@ -44,5 +44,6 @@ more [] a within = absurd (omega arith)
 more (word ∷ memory) zero within = refl
 more (word ∷ memory) (suc a) within = let rest = more memory a (omega arith) in λ i. word ∷ rest i
 
-pub words_more : (memory : Memory) (a : ℕ) (kind : WordKind) (value : ℤ) → a < length memory → kind ≡ kind_at memory a → value ≡ value_at memory a → take a memory ++ record { kind = kind; value = value } ∷ [] ≡ take (a + 1) memory
+pub words_more : (memory : Memory) (a : ℕ) (kind : WordKind) (value : ℤ) → a < length memory → kind ≡ kind_at memory a → value ≡ value_at memory a
+    → take a memory ++ record { kind = kind; value = value } ∷ [] ≡ take (a + 1) memory
 words_more memory a kind value within kind_is value_is = rw add-one ((λ i. take a memory ++ record { kind = kind_is i; value = value_is i } ∷ []) ∙ more memory a within)

@@ -1,5 +1,6 @@
 -- The definitions at the tree's own constructors, and how outcomes follow one another.
-use Rattle.std.proofs.Common.{◌≡◌, Bool, true, false, ℕ, suc, ◌+◌, ◌<◌, length, get_or, drop, add-one, drop-cons, List, [], ◌∷◌, ◌++◌, Option, Some, None, Result, Ok, Err, refl, sym, ap, ◌∙◌, subst, append_assoc}
+use Rattle.std.proofs.Common.{◌≡◌, Bool, true, false, ℕ, suc, ◌+◌, ◌<◌, length, get_or, drop, add-one, drop-cons, List, [], ◌∷◌, ◌++◌, Option, Some, None, Result, Ok, Err, refl, sym, ap, ◌∙◌, subst}
+use Rattle.std.proofs.Common.{append_assoc}
 use denote.Hole.Carrier.{hidden}
 use Rattle.csl_tree.specs.declared.program.Program.{Program}
 use Rattle.csl_tree.specs.declared.program.Expr.{Expr}
@@ -42,7 +43,8 @@ gave (ShowsLine line o) a w e = cc
 gave (OpensStep job o) a w e = cc
 
 -- a first part that appends values to none
-pub appends_first : {B : Type 0} (o : Outcome (List Val)) (next : List Val → Run B) (before given : List Val) (w w' : World) (r : Result B Halt) → before ≡ [] → and_then o (λ vs. pure (before ++ vs)) ≡ Gives given w → Follows (next given w) r w' → Follows (and_then o next) r w'
+pub appends_first : {B : Type 0} (o : Outcome (List Val)) (next : List Val → Run B) (before given : List Val) (w w' : World) (r : Result B Halt) → before ≡ []
+    → and_then o (λ vs. pure (before ++ vs)) ≡ Gives given w → Follows (next given w) r w' → Follows (and_then o next) r w'
 appends_first o next before given w w' r none e h =
     gives_first o next given w w' r (gave o given w (subst (λ (b : List Val). and_then o (λ vs. pure (b ++ vs)) ≡ Gives given w) none e)) h
 
@@ -57,7 +59,8 @@ module _ (p : Program) (calls : Calls) (locals : Locals) (w : World) where
   unfolding shape-the_row-Expr-0 hidden-the_row-Expr-0 hidden
   value_unary n op a e = ap (λ m. value p calls locals m w) e
 
-  pub value_binary : (n : Node) (op : BinaryOp) (a b : Expr) → n ≡ node.Binary op a b → value p calls locals n w ≡ and_then (value p calls locals a.node w) (λ x. unless (decided op x) (value p calls locals b.node >>= (λ y. try (binary op x y))))
+  pub value_binary : (n : Node) (op : BinaryOp) (a b : Expr) → n ≡ node.Binary op a b → value p calls locals n w ≡ and_then (value p calls locals a.node w)
+      (λ x. unless (decided op x) (value p calls locals b.node >>= (λ y. try (binary op x y))))
   unfolding shape-the_row-Expr-0 hidden-the_row-Expr-0 hidden
   value_binary n op a b e = ap (λ m. value p calls locals m w) e
 
@@ -68,7 +71,8 @@ module _ (p : Program) (calls : Calls) (locals : Locals) (w : World) where
   pub read_scalar : (q : Place) → (out-Place q).index ≡ None → read p calls locals q w ≡ read_name (local_value locals (out-Place q).name.text) (declared (area_of p.shared (out-Place q).name.text)) w
   read_scalar q e = ap (λ x. read p calls locals x w) (is-Place' q) ∙ ap (λ i. read p calls locals (Place' (out-Place q).name (back-Place-index i)) w) e
 
-  pub read_item : (q : Place) (i : Expr) → (out-Place q).index ≡ Some i → read p calls locals q w ≡ and_then (value p calls locals i.node w) (λ x. in_range (item_at (declared (area_of p.shared (out-Place q).name.text)) (number_in x)) >>= read_as_int)
+  pub read_item : (q : Place) (i : Expr) → (out-Place q).index ≡ Some i → read p calls locals q w ≡ and_then (value p calls locals i.node w)
+      (λ x. in_range (item_at (declared (area_of p.shared (out-Place q).name.text)) (number_in x)) >>= read_as_int)
   unfolding shape-the_row-Expr-0 hidden-the_row-Expr-0 hidden
   read_item q i e = ap (λ x. read p calls locals x w) (is-Place' q) ∙ ap (λ j. read p calls locals (Place' (out-Place q).name (back-Place-index j)) w) e
 
@@ -91,13 +95,16 @@ stops_by_itself (Stops t v) before s w e = cc
 stops_by_itself (ShowsLine line o) before s w e = cc
 stops_by_itself (OpensStep job o) before s w e = cc
 
-pub value_appended : (p : Program) (calls : Calls) (locals : Locals) (all rest : List Expr) (e : Expr) (given : List Val) (v : Val) (w w' : World) → all ≡ e ∷ rest → value p calls locals e.node w ≡ Gives v w' → (values_of p calls locals rest >>= (λ vs. pure ((given ++ v ∷ []) ++ vs))) w' ≡ (values_of p calls locals all >>= (λ vs. pure (given ++ vs))) w
+pub value_appended : (p : Program) (calls : Calls) (locals : Locals) (all rest : List Expr) (e : Expr) (given : List Val) (v : Val) (w w' : World) → all ≡ e ∷ rest
+    → value p calls locals e.node w ≡ Gives v w' → (values_of p calls locals rest >>= (λ vs. pure ((given ++ v ∷ []) ++ vs))) w' ≡ (values_of p calls locals all >>= (λ vs. pure (given ++ vs))) w
 value_appended p calls locals all rest e given v w w' is gives =
     one_by_one (values_of p calls locals rest w') given v
     ∙ ap (λ o. and_then (and_then o (λ x. values_of p calls locals rest >>= (λ vs. pure (x ∷ vs)))) (λ vs. pure (given ++ vs))) (sym gives)
     ∙ ap (λ l. and_then (values_of p calls locals l w) (λ vs. pure (given ++ vs))) (sym is)
 
-pub value_stops : (p : Program) (calls : Calls) (locals : Locals) (all rest : List Expr) (e : Expr) (before given given' : List Val) (h : Halt) (w w' w0 : World) (run : Run (List Val)) → all ≡ e ∷ rest → Follows (value p calls locals e.node w) (Err h) w' → (values_of p calls locals all >>= (λ vs. pure (given ++ vs))) w ≡ (run >>= (λ vs. pure (before ++ vs))) w0 → AppendsAll run before w0 (Err h) given' w'
+pub value_stops : (p : Program) (calls : Calls) (locals : Locals) (all rest : List Expr) (e : Expr) (before given given' : List Val) (h : Halt) (w w' w0 : World) (run : Run (List Val))
+    → all ≡ e ∷ rest → Follows (value p calls locals e.node w) (Err h) w' → (values_of p calls locals all >>= (λ vs. pure (given ++ vs))) w ≡ (run >>= (λ vs. pure (before ++ vs))) w0
+    → AppendsAll run before w0 (Err h) given' w'
 value_stops p calls locals all rest e before given given' NoMemory w w' w0 run is follows inv = tt
 value_stops p calls locals all rest e before given given' (Cause c) w w' w0 run is follows inv =
     stops_by_itself (run w0) before c w' (sym inv
@@ -123,10 +130,12 @@ module _ (p : Program) (calls : Calls) (locals : Locals) (w : World) where
   unfolding shape-the_row-Expr-0 hidden-the_row-Expr-0 hidden
   changed_item_of true q i e is =
       ap (λ x. changed true p calls locals x e w) (is-Place' q) ∙ ap (λ j. changed true p calls locals (Place' (out-Place q).name (back-Place-index j)) e w) is
-      ∙ (λ j. and_then (value p calls locals i.node w) (λ x. value p calls locals e.node >>= (λ v. λ w'. part true (item_at (declared (area_of p.shared (out-Place q).name.text)) (number_in x)) v locals w' j)))
+      ∙ (λ j. and_then (value p calls locals i.node w) (λ x. value p calls locals e.node >>= (λ v. λ w'. part true (item_at (declared (area_of p.shared (out-Place q).name.text)) (number_in x)) v
+      locals w' j)))
   changed_item_of false q i e is =
       ap (λ x. changed false p calls locals x e w) (is-Place' q) ∙ ap (λ j. changed false p calls locals (Place' (out-Place q).name (back-Place-index j)) e w) is
-      ∙ (λ j. and_then (value p calls locals i.node w) (λ x. value p calls locals e.node >>= (λ v. λ w'. part false (item_at (declared (area_of p.shared (out-Place q).name.text)) (number_in x)) v locals w' j)))
+      ∙ (λ j. and_then (value p calls locals i.node w) (λ x. value p calls locals e.node >>= (λ v. λ w'. part false (item_at (declared (area_of p.shared (out-Place q).name.text)) (number_in x)) v
+      locals w' j)))
 
 -- a first part that stops
 pub sets_stop : {A : Type 0} (o : Outcome A) (next : A → Run Locals) (h : Halt) (l : Locals) (w : World) → Follows o (Err h) w → Sets (and_then o next) (Err h) l w
@@ -134,7 +143,8 @@ sets_stop o next (Cause c) l w e = ap (λ x. and_then x next) e
 sets_stop o next NoMemory l w e = tt
 
 -- a first part that gives a value
-pub sets_next : {A : Type 0} (o : Outcome A) (next : A → Run Locals) (a : A) (r : Result (Unit {0}) Halt) (l : Locals) (w w' : World) → o ≡ Gives a w → Sets (next a w) r l w' → Sets (and_then o next) r l w'
+pub sets_next : {A : Type 0} (o : Outcome A) (next : A → Run Locals) (a : A) (r : Result (Unit {0}) Halt) (l : Locals) (w w' : World) → o ≡ Gives a w → Sets (next a w) r l w'
+    → Sets (and_then o next) r l w'
 sets_next o next a r l w w' e h = subst (λ x. Sets (and_then x next) r l w') (sym e) h
 
 -- what leaves the locals alone

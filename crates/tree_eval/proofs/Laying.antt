@@ -35,12 +35,14 @@ next_is_free zero (answer ∷ answers) = refl
 next_is_free (suc k) [] = refl
 next_is_free (suc k) (answer ∷ answers) = next_is_free k answers
 
-one_further : (k : ℕ) (answers : Answers) (answer : Option Answer) → k < length answers → answer ≡ get_or answers k answer → slice_set (first_answers k answers) k answer ≡ first_answers (suc k) answers
+one_further : (k : ℕ) (answers : Answers) (answer : Option Answer) → k < length answers → answer ≡ get_or answers k answer
+    → slice_set (first_answers k answers) k answer ≡ first_answers (suc k) answers
 one_further k [] answer within is = absurd (omega arith)
 one_further zero (a ∷ answers) answer within is = λ i. is i ∷ first_answers zero answers
 one_further (suc k) (a ∷ answers) answer within is = let rest = one_further k answers answer (omega arith) is in λ i. a ∷ rest i
 
-pub one_more : (k : ℕ) (answers : Answers) (answer : Option Answer) → k < length answers → answer ≡ get_or answers k answer → slice_set (first_answers k answers) k answer ≡ first_answers (k + 1) answers
+pub one_more : (k : ℕ) (answers : Answers) (answer : Option Answer) → k < length answers → answer ≡ get_or answers k answer
+    → slice_set (first_answers k answers) k answer ≡ first_answers (k + 1) answers
 one_more k answers answer within is = rw add-one (one_further k answers answer within is)
 
 -- to lay nothing changes nothing

@@ -50,7 +50,8 @@ module _ {A : Type 0} where
     abbrev pub item_first : Outcome V → Run (List A) → Outcome (List A)
     item_first first rest = and_then first (λ x. rest >>= (λ vs. pure (g x ∷ vs)))
 
-    pub item_appended : (first : Outcome V) (rest : Run (List A)) (given : List A) (v : V) (w : World) → first ≡ Gives v w → (rest >>= (λ vs. pure ((given ++ g v ∷ []) ++ vs))) w ≡ and_then (item_first first rest) (λ vs. pure (given ++ vs))
+    pub item_appended : (first : Outcome V) (rest : Run (List A)) (given : List A) (v : V) (w : World) → first ≡ Gives v w
+        → (rest >>= (λ vs. pure ((given ++ g v ∷ []) ++ vs))) w ≡ and_then (item_first first rest) (λ vs. pure (given ++ vs))
     item_appended first rest given v w gives =
         one_by_one (rest w) given (g v) ∙ ap (λ o. and_then (item_first o rest) (λ vs. pure (given ++ vs))) (sym gives)
 
@@ -70,7 +71,8 @@ module _ (p : Program) (calls : Calls) (locals : Locals) where
   pieces_next (item.Text text) rest w = refl
   pieces_next (item.Value e) rest w = sym (bind_assoc (value_of p calls locals e w) (λ v. pure (shown v)) (λ t. pieces p calls locals rest >>= (λ more. pure (t ∷ more))))
 
-  pub widths_next : (b : RoutineBlock) (rest : List RoutineBlock) (w : World) → widths_of p calls locals (b ∷ rest) w ≡ item_first number_in (value_of p calls locals (out-RoutineBlock b).width w) (widths_of p calls locals rest)
+  pub widths_next : (b : RoutineBlock) (rest : List RoutineBlock) (w : World) → widths_of p calls locals (b ∷ rest) w ≡ item_first number_in (value_of p calls locals (out-RoutineBlock b).width w)
+      (widths_of p calls locals rest)
   widths_next b rest w = ap (λ x. widths_of p calls locals (x ∷ rest) w) (is-RoutineBlock' b)
 
 module _ (p : Program) (calls : Calls) (locals : Locals) where
@@ -80,7 +82,8 @@ module _ (p : Program) (calls : Calls) (locals : Locals) where
       item_appended (λ (t : List ℕ). t) (piece_of p calls locals x w) (pieces p calls locals rest) given t w' gives
       ∙ sym (ap (λ l. and_then (pieces p calls locals l w) (λ vs. pure (given ++ vs))) is ∙ ap (λ o. and_then o (λ vs. pure (given ++ vs))) (pieces_next p calls locals x rest w))
 
-  pub pieces_stop : (all rest : List Item) (x : Item) (before given given' : List (List ℕ)) (h : Halt) (w w' w0 : World) (run : Run (List (List ℕ))) → all ≡ x ∷ rest → Follows (piece_of p calls locals x w) (Err h) w'
+  pub pieces_stop : (all rest : List Item) (x : Item) (before given given' : List (List ℕ)) (h : Halt) (w w' w0 : World) (run : Run (List (List ℕ))) → all ≡ x ∷ rest
+      → Follows (piece_of p calls locals x w) (Err h) w'
       → (pieces p calls locals all >>= (λ vs. pure (given ++ vs))) w ≡ (run >>= (λ vs. pure (before ++ vs))) w0 → AppendsAll run before w0 (Err h) given' w'
   pieces_stop all rest x before given given' h w w' w0 run is follows inv =
       item_stops (λ (t : List ℕ). t) (piece_of p calls locals x w) (pieces p calls locals rest) before given given' h w' w0 run follows
@@ -92,7 +95,8 @@ module _ (p : Program) (calls : Calls) (locals : Locals) where
       item_appended number_in (value_of p calls locals (out-RoutineBlock b).width w) (widths_of p calls locals rest) given v w' gives
       ∙ sym (ap (λ l. and_then (widths_of p calls locals l w) (λ vs. pure (given ++ vs))) is ∙ ap (λ o. and_then o (λ vs. pure (given ++ vs))) (widths_next p calls locals b rest w))
 
-  pub widths_stop : (all rest : List RoutineBlock) (b : RoutineBlock) (before given given' : List ℤ) (h : Halt) (w w' w0 : World) (run : Run (List ℤ)) → all ≡ b ∷ rest → Follows (value_of p calls locals (out-RoutineBlock b).width w) (Err h) w'
+  pub widths_stop : (all rest : List RoutineBlock) (b : RoutineBlock) (before given given' : List ℤ) (h : Halt) (w w' w0 : World) (run : Run (List ℤ)) → all ≡ b ∷ rest
+      → Follows (value_of p calls locals (out-RoutineBlock b).width w) (Err h) w'
       → (widths_of p calls locals all >>= (λ vs. pure (given ++ vs))) w ≡ (run >>= (λ vs. pure (before ++ vs))) w0 → AppendsAll run before w0 (Err h) given' w'
   widths_stop all rest b before given given' h w w' w0 run is follows inv =
       item_stops number_in (value_of p calls locals (out-RoutineBlock b).width w) (widths_of p calls locals rest) before given given' h w' w0 run follows

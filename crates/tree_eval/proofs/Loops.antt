@@ -11,7 +11,8 @@ use Rattle.csl_tree.specs.declared.program.Stmt.{Stmt}
 use Rattle.csl_tree.specs.declared.program.RoutineBlock.{RoutineBlock}
 use Rattle.csl_tree.specs.declared.program.Form.{Form}
 use Rattle.csl_tree.specs.declared.program.Form.TheVariants as form
-use Rattle.csl_tree.specs.declared.program.Form.TheBlock.{shape-the_row-Stmt-1, hidden-the_row-Stmt-1, shape-the_row-Stmt-2, hidden-the_row-Stmt-2, shape-the_row-Arm-0, hidden-the_row-Arm-0, shape-the_row-RoutineBlock-3, hidden-the_row-RoutineBlock-3, back-Form-If-1}
+use Rattle.csl_tree.specs.declared.program.Form.TheBlock.{shape-the_row-Stmt-1, hidden-the_row-Stmt-1, shape-the_row-Stmt-2, hidden-the_row-Stmt-2, shape-the_row-Arm-0, hidden-the_row-Arm-0}
+use Rattle.csl_tree.specs.declared.program.Form.TheBlock.{shape-the_row-RoutineBlock-3, hidden-the_row-RoutineBlock-3, back-Form-If-1}
 use Rattle.cal_base.specs.declared.ends.Cause.{Cause as CauseMet}
 use Rattle.cal_base.specs.declared.ends.Cause.TheVariants.{FuelSpent}
 use Rattle.cal_base.specs.declared.value.Val.{Val}
@@ -36,7 +37,8 @@ module _ (p : Program) (calls : Calls) (mains : MainOnly → Locals → Run Went
   in_order_is [] = refl
   in_order_is (s ∷ rest) = ap (λ (next : Locals → Run Went). λ (locals : Locals). effect p calls mains s.form locals >>= (λ went. go_on went next)) (in_order_is rest)
 
-  pub effect_while : (f : Form) (test : Expr) (body : List Stmt) (locals : Locals) (w : World) → f ≡ form.While test body → effect p calls mains f locals w ≡ loop (λ inner. value_of p calls inner test) (scoped (statements p calls mains body)) (step_of p calls mains None) locals w
+  pub effect_while : (f : Form) (test : Expr) (body : List Stmt) (locals : Locals) (w : World) → f ≡ form.While test body
+      → effect p calls mains f locals w ≡ loop (λ inner. value_of p calls inner test) (scoped (statements p calls mains body)) (step_of p calls mains None) locals w
   effect_while f test body locals w e =
       ap (λ g. effect p calls mains g locals w) e
       ∙ ap (λ (b : Locals → Run Went). loop (λ inner. value_of p calls inner test) (scoped b) pure locals w) (in_order_is body)
@@ -61,11 +63,14 @@ module _ (p : Program) (calls : Calls) (mains : MainOnly → Locals → Run Went
   arms_is [] last = refl
   arms_is (arm ∷ rest) last =
       ap (λ (x : Arm). choose p calls mains (hidden-the_row-Arm-0 (x ∷ rest)) last) (is-Arm' arm)
-      ∙ ap (λ (b : Locals → Run Went). λ (locals : Locals). value_of p calls locals (out-Arm arm).test >>= (λ v. if truth_in v then scoped b locals else choose p calls mains (hidden-the_row-Arm-0 rest) last locals)) (in_order_is p calls mains (out-Arm arm).body)
-      ∙ ap (λ (b : Locals → Run Went). λ (locals : Locals). value_of p calls locals (out-Arm arm).test >>= (λ v. if truth_in v then scoped (statements p calls mains (out-Arm arm).body) locals else b locals)) (arms_is rest last)
+      ∙ ap (λ (b : Locals → Run Went). λ (locals : Locals). value_of p calls locals (out-Arm arm).test
+      >>= (λ v. if truth_in v then scoped b locals else choose p calls mains (hidden-the_row-Arm-0 rest) last locals)) (in_order_is p calls mains (out-Arm arm).body)
+      ∙ ap (λ (b : Locals → Run Went). λ (locals : Locals). value_of p calls locals (out-Arm arm).test
+      >>= (λ v. if truth_in v then scoped (statements p calls mains (out-Arm arm).body) locals else b locals)) (arms_is rest last)
 
   -- an `if` by its list of arms
-  pub effect_if : (f : Form) (arms : List Arm) (last : Option (List Stmt)) (locals : Locals) (w : World) → f ≡ form.If arms last → effect p calls mains f locals w ≡ chosen p calls mains arms (last_block p calls mains last) locals w
+  pub effect_if : (f : Form) (arms : List Arm) (last : Option (List Stmt)) (locals : Locals) (w : World) → f ≡ form.If arms last
+      → effect p calls mains f locals w ≡ chosen p calls mains arms (last_block p calls mains last) locals w
   effect_if f arms last locals w e =
       ap (λ g. effect p calls mains g locals w) e
       ∙ ap (λ (c : (Locals → Run Went) → Locals → Run Went). c (otherwise p calls mains (back-Form-If-1 last)) locals w) (ap (λ (c : (Locals → Run Went) → Locals → Run Went). c) (arms_are arms))
@@ -83,11 +88,13 @@ module _ (p : Program) (calls : Calls) (mains : MainOnly → Locals → Run Went
   after_one o = and_then (and_then o (λ went. go_on went (λ l. pure (ending.Normal, l)))) (λ went. pure went.1)
 
   pub effect_for : (f : Form) (first : Stmt) (test : Expr) (next : Stmt) (body : List Stmt) (locals : Locals) (w : World) → f ≡ form.For first test next body
-      → effect p calls mains f locals w ≡ and_then (after_one (effect p calls mains first.form locals w)) (λ inner. loop (λ l. value_of p calls l test) (scoped (statements p calls mains body)) (step_of p calls mains (Some next)) inner >>= (λ went. pure (leave (length locals) went)))
+      → effect p calls mains f locals w ≡ and_then (after_one (effect p calls mains first.form locals w))
+      (λ inner. loop (λ l. value_of p calls l test) (scoped (statements p calls mains body)) (step_of p calls mains (Some next)) inner >>= (λ went. pure (leave (length locals) went)))
   unfolding shape-the_row-Stmt-2 hidden-the_row-Stmt-2 hidden
   effect_for f first test next body locals w e =
       ap (λ g. effect p calls mains g locals w) e
-      ∙ ap (λ (b : Locals → Run Went). and_then (after_one (effect p calls mains first.form locals w)) (λ inner. loop (λ l. value_of p calls l test) (scoped b) (step_of p calls mains (Some next)) inner >>= (λ went. pure (leave (length locals) went)))) (in_order_is p calls mains body)
+      ∙ ap (λ (b : Locals → Run Went). and_then (after_one (effect p calls mains first.form locals w))
+      (λ inner. loop (λ l. value_of p calls l test) (scoped b) (step_of p calls mains (Some next)) inner >>= (λ went. pure (leave (length locals) went)))) (in_order_is p calls mains body)
 
   pub one_gave : (o : Outcome Went) (e : Ending) (l : Locals) (w : World) → o ≡ Gives (e, l) w → after_one o ≡ Gives l w
   one_gave o e l w is = ap after_one is ∙ by_ending e
@@ -102,7 +109,8 @@ module _ (p : Program) (calls : Calls) (mains : MainOnly → Locals → Run Went
   pub step_gave : (s : Stmt) (locals l : Locals) (e : Ending) (w w' : World) → effect p calls mains s.form locals w ≡ Gives (e, l) w' → step_of p calls mains (Some s) locals w ≡ Gives l w'
   step_gave s locals l e w w' is = one_gave (effect p calls mains s.form locals w) e l w' is
 
-  pub step_stopped : (s : Stmt) (locals l l' : Locals) (h : Halt) (w w' : World) → Goes (effect p calls mains s.form locals w) (Err h) l w' → Sets (step_of p calls mains (Some s) locals w) (Err h) l' w'
+  pub step_stopped : (s : Stmt) (locals l l' : Locals) (h : Halt) (w w' : World) → Goes (effect p calls mains s.form locals w) (Err h) l w'
+      → Sets (step_of p calls mains (Some s) locals w) (Err h) l' w'
   step_stopped s locals l l' NoMemory w w' is = tt
   step_stopped s locals l l' (Cause c) w w' is = ap after_one is
 
@@ -161,22 +169,26 @@ module _ (test : Locals → Run Val) (body : Locals → Run Went) (next : Locals
       ap (λ (t : Locals → Run Went). t l w) (turns_is n) ∙ ap (λ o. and_then o (tested n l)) e
       ∙ ap (λ (b : Bool). (if b then (body l >>= (λ went. after_body went (λ inner. next inner >>= again n))) else pure (ending.Normal, l)) w') f
 
-  test_true : (n : ℕ) (l : Locals) (w w' : World) (v : Val) → test l w ≡ Gives v w' → truth_in v ≡ true → turns n test body next l w ≡ and_then (body l w') (λ went. after_body went (λ inner. next inner >>= again n))
+  test_true : (n : ℕ) (l : Locals) (w w' : World) (v : Val) → test l w ≡ Gives v w' → truth_in v ≡ true
+      → turns n test body next l w ≡ and_then (body l w') (λ went. after_body went (λ inner. next inner >>= again n))
   test_true n l w w' v e f =
       ap (λ (t : Locals → Run Went). t l w) (turns_is n) ∙ ap (λ o. and_then o (tested n l)) e
       ∙ ap (λ (b : Bool). (if b then (body l >>= (λ went. after_body went (λ inner. next inner >>= again n))) else pure (ending.Normal, l)) w') f
 
-  pub turn_stops : (n : ℕ) (l l1 l2 : Locals) (w w1 w2 : World) (v : Val) (h : Halt) → test l w ≡ Gives v w1 → truth_in v ≡ true → Goes (body l w1) (Err h) l1 w2 → Goes (turns n test body next l w) (Err h) l2 w2
+  pub turn_stops : (n : ℕ) (l l1 l2 : Locals) (w w1 w2 : World) (v : Val) (h : Halt) → test l w ≡ Gives v w1 → truth_in v ≡ true → Goes (body l w1) (Err h) l1 w2
+      → Goes (turns n test body next l w) (Err h) l2 w2
   turn_stops n l l1 l2 w w1 w2 v NoMemory e t b = tt
   turn_stops n l l1 l2 w w1 w2 v (Cause c) e t b = test_true n l w w1 v e t ∙ ap (λ o. and_then o (λ went. after_body went (λ inner. next inner >>= again n))) b
 
   -- what follows a body that gave something
-  pub turn_gives : (n : ℕ) (l : Locals) (w w1 w2 : World) (v : Val) (went : Went) → test l w ≡ Gives v w1 → truth_in v ≡ true → body l w1 ≡ Gives went w2 → turns n test body next l w ≡ after_body went (λ inner. next inner >>= again n) w2
+  pub turn_gives : (n : ℕ) (l : Locals) (w w1 w2 : World) (v : Val) (went : Went) → test l w ≡ Gives v w1 → truth_in v ≡ true → body l w1 ≡ Gives went w2
+      → turns n test body next l w ≡ after_body went (λ inner. next inner >>= again n) w2
   turn_gives n l w w1 w2 v went e t b =
       test_true n l w w1 v e t ∙ ap (λ o. and_then o (λ x. after_body x (λ inner. next inner >>= again n))) b
 
   -- a body that ends normally or by `continue` leads to the step
-  pub to_step : (n : ℕ) (l l1 : Locals) (w w1 w2 : World) (v : Val) (e : Ending) → test l w ≡ Gives v w1 → truth_in v ≡ true → body l w1 ≡ Gives (e, l1) w2 → (e ≡ ending.Normal) ⊎ (e ≡ ending.Continue) → turns n test body next l w ≡ and_then (next l1 w2) (again n)
+  pub to_step : (n : ℕ) (l l1 : Locals) (w w1 w2 : World) (v : Val) (e : Ending) → test l w ≡ Gives v w1 → truth_in v ≡ true → body l w1 ≡ Gives (e, l1) w2
+      → (e ≡ ending.Normal) ⊎ (e ≡ ending.Continue) → turns n test body next l w ≡ and_then (next l1 w2) (again n)
   to_step n l l1 w w1 w2 v e is t b ends =
       turn_gives n l w w1 w2 v (e, l1) is t b
       ∙ ⊎_elim (λ k. ap (λ x. after_body (x, l1) (λ inner. next inner >>= again n) w2) k) (λ k. ap (λ x. after_body (x, l1) (λ inner. next inner >>= again n) w2) k) ends
@@ -211,7 +223,8 @@ IsPlain f =
     ⊎ ((e : Expr) × (f ≡ form.Assert e))))))))
 
 module _ (p : Program) (calls : Calls) (mains : MainOnly → Locals → Run Went) where
-  same_at : (f g : Form) (locals : Locals) (w : World) → f ≡ g → effect p calls mains g locals w ≡ effect p calls nowhere g locals w → effect p calls mains f locals w ≡ effect p calls nowhere f locals w
+  same_at : (f g : Form) (locals : Locals) (w : World) → f ≡ g → effect p calls mains g locals w ≡ effect p calls nowhere g locals w
+      → effect p calls mains f locals w ≡ effect p calls nowhere f locals w
   same_at f g locals w e same = ap (λ x. effect p calls mains x locals w) e ∙ same ∙ sym (ap (λ x. effect p calls nowhere x locals w) e)
 
   pub plain_is : (f : Form) (locals : Locals) (w : World) → IsPlain f → effect p calls mains f locals w ≡ effect p calls nowhere f locals w

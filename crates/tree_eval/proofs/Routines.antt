@@ -41,17 +41,22 @@ given_answer o (Ok e) l w g = sym (ap answered g)
 given_answer o (Err (Cause c)) l w g = sym (ap answered g)
 given_answer o (Err NoMemory) l w g = tt
 
-answer_is : (p : Program) (opening : Memory) (fuel : ℕ) (b : RoutineBlock) (width id : ℕ) → answer p opening fuel b width id ≡ answered (statements p (calls_to p most_levels) nowhere (out-RoutineBlock b).body (bound ((out-RoutineBlock b).width_name.text ∷ (out-RoutineBlock b).id_name.text ∷ []) (val.Int (pos width) ∷ val.Int (pos id) ∷ [])) (opening_world opening fuel))
+answer_is : (p : Program) (opening : Memory) (fuel : ℕ) (b : RoutineBlock) (width id : ℕ) → answer p opening fuel b width id ≡ answered
+    (statements p (calls_to p most_levels) nowhere (out-RoutineBlock b).body (bound ((out-RoutineBlock b).width_name.text ∷ (out-RoutineBlock b).id_name.text ∷ [])
+    (val.Int (pos width) ∷ val.Int (pos id) ∷ [])) (opening_world opening fuel))
 answer_is p opening fuel b width id =
     ap (λ x. answer p opening fuel x width id) (is-RoutineBlock' b)
-    ∙ ap (λ (f : Locals → Run Went). answered (f (bound ((out-RoutineBlock b).width_name.text ∷ (out-RoutineBlock b).id_name.text ∷ []) (val.Int (pos width) ∷ val.Int (pos id) ∷ [])) (opening_world opening fuel))) (in_order_is p (calls_to p most_levels) nowhere (out-RoutineBlock b).body)
+    ∙ ap (λ (f : Locals → Run Went). answered (f (bound ((out-RoutineBlock b).width_name.text ∷ (out-RoutineBlock b).id_name.text ∷ []) (val.Int (pos width) ∷ val.Int (pos id) ∷ []))
+    (opening_world opening fuel))) (in_order_is p (calls_to p most_levels) nowhere (out-RoutineBlock b).body)
 
 pub right_answer : (p : Program) (opening : Memory) (fuel : ℕ) (b : RoutineBlock) (width id : ℕ) (body : List Stmt) (begun l : Locals) (written : Written) (went : Result Ending Halt) (w : World)
     → body ≡ (out-RoutineBlock b).body → begun ≡ bound ((out-RoutineBlock b).width_name.text ∷ (out-RoutineBlock b).id_name.text ∷ []) (val.Int (pos width) ∷ val.Int (pos id) ∷ [])
-    → Goes (statements p (calls_to p most_levels) nowhere body begun (record { store = store.Routine opening written; fuel = fuel; steps = 0 })) went l w → written ≡ empty → IfOk (finished went w.store) (λ r. r.1 ≡ answer p opening fuel b width id)
+    → Goes (statements p (calls_to p most_levels) nowhere body begun (record { store = store.Routine opening written; fuel = fuel; steps = 0 })) went l w → written ≡ empty
+    → IfOk (finished went w.store) (λ r. r.1 ≡ answer p opening fuel b width id)
 right_answer p opening fuel b width id body begun l written went w same begins g none =
     let o : Outcome Went = statements p (calls_to p most_levels) nowhere body begun (record { store = store.Routine opening written; fuel = fuel; steps = 0 }) in
-    let is : o ≡ statements p (calls_to p most_levels) nowhere (out-RoutineBlock b).body (bound ((out-RoutineBlock b).width_name.text ∷ (out-RoutineBlock b).id_name.text ∷ []) (val.Int (pos width) ∷ val.Int (pos id) ∷ [])) (opening_world opening fuel) =
+    let is : o ≡ statements p (calls_to p most_levels) nowhere (out-RoutineBlock b).body (bound ((out-RoutineBlock b).width_name.text ∷ (out-RoutineBlock b).id_name.text ∷ [])
+    (val.Int (pos width) ∷ val.Int (pos id) ∷ [])) (opening_world opening fuel) =
     ap (λ x. statements p (calls_to p most_levels) nowhere body begun (record { store = store.Routine opening x; fuel = fuel; steps = 0 })) none
     ∙ ap (λ x. statements p (calls_to p most_levels) nowhere x begun (opening_world opening fuel)) same
     ∙ ap (λ x. statements p (calls_to p most_levels) nowhere (out-RoutineBlock b).body x (opening_world opening fuel)) begins in
@@ -84,11 +89,13 @@ module _ (p : Program) (memory : Memory) (fuel : ℕ) where
   abbrev pub of_block : RoutineBlock → ℕ → List (Option Answer)
   of_block b w = all_of (map (λ id. answer p memory fuel b w id) (range_with_len 0 w))
 
-  block_first : (b : RoutineBlock) (blocks : List RoutineBlock) (w : ℕ) (widths : List ℕ) → of_block b w ++ all_of (answers p memory fuel blocks widths) ≡ all_of (answers p memory fuel (b ∷ blocks) (w ∷ widths))
+  block_first : (b : RoutineBlock) (blocks : List RoutineBlock) (w : ℕ) (widths : List ℕ) → of_block b w
+      ++ all_of (answers p memory fuel blocks widths) ≡ all_of (answers p memory fuel (b ∷ blocks) (w ∷ widths))
   block_first b blocks w widths = sym (all_append (map (λ id. answer p memory fuel b w id) (range_with_len 0 w)) (answers p memory fuel blocks widths))
 
   -- one block more
-  pub block_more : (before : List (Option Answer)) (blocks : List RoutineBlock) (widths : List ℕ) (i : ℕ) (b : RoutineBlock) (w : ℕ) → drop i blocks ≡ b ∷ drop (i + 1) blocks → drop i widths ≡ w ∷ drop (i + 1) widths
+  pub block_more : (before : List (Option Answer)) (blocks : List RoutineBlock) (widths : List ℕ) (i : ℕ) (b : RoutineBlock) (w : ℕ) → drop i blocks ≡ b ∷ drop (i + 1) blocks
+      → drop i widths ≡ w ∷ drop (i + 1) widths
       → (before ++ of_block b w) ++ all_of (answers p memory fuel (drop (i + 1) blocks) (drop (i + 1) widths)) ≡ before ++ all_of (answers p memory fuel (drop i blocks) (drop i widths))
   block_more before blocks widths i b w bs ws =
       append_assoc before (of_block b w) (all_of (answers p memory fuel (drop (i + 1) blocks) (drop (i + 1) widths)))
@@ -96,10 +103,12 @@ module _ (p : Program) (memory : Memory) (fuel : ℕ) where
       ∙ (λ j. before ++ all_of (answers p memory fuel (sym bs j) (sym ws j)))
 
   -- no block, or no width, is left
-  pub blocks_end : (before : List (Option Answer)) (blocks : List RoutineBlock) (widths : List ℕ) (i : ℕ) → drop i blocks ≡ [] → before ++ all_of (answers p memory fuel (drop i blocks) (drop i widths)) ≡ before
+  pub blocks_end : (before : List (Option Answer)) (blocks : List RoutineBlock) (widths : List ℕ) (i : ℕ) → drop i blocks ≡ []
+      → before ++ all_of (answers p memory fuel (drop i blocks) (drop i widths)) ≡ before
   blocks_end before blocks widths i none = ap (λ bs. before ++ all_of (answers p memory fuel bs (drop i widths))) none ∙ append-nil before
 
-  pub widths_end : (before : List (Option Answer)) (blocks : List RoutineBlock) (widths : List ℕ) (i : ℕ) → drop i widths ≡ [] → before ++ all_of (answers p memory fuel (drop i blocks) (drop i widths)) ≡ before
+  pub widths_end : (before : List (Option Answer)) (blocks : List RoutineBlock) (widths : List ℕ) (i : ℕ) → drop i widths ≡ []
+      → before ++ all_of (answers p memory fuel (drop i blocks) (drop i widths)) ≡ before
   widths_end before blocks widths i none = ap (λ ws. before ++ all_of (answers p memory fuel (drop i blocks) ws)) none ∙ by_blocks (drop i blocks)
     where
       by_blocks : (bs : List RoutineBlock) → before ++ all_of (answers p memory fuel bs []) ≡ before

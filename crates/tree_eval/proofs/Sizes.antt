@@ -9,12 +9,14 @@ use Rattle.csl_tree.specs.declared.program.Place.{Place}
 use Rattle.csl_tree.specs.declared.program.Call.{Call}
 use Rattle.csl_tree.specs.declared.program.Stmt.{Stmt}
 use Rattle.csl_tree.specs.declared.program.Arm.{Arm, Arm', out-Arm, is-Arm'}
-use Rattle.csl_tree.specs.declared.program.Form.{Form, Declare, Set, AddTo, If', While', For', Break, Continue, Return, CallOf, Assert, Block', Print, Par', Row_of-Arm, end_of-Arm, more_of-Arm, Row_of-Stmt, end_of-Stmt, more_of-Stmt, Held-Form-If-1}
+use Rattle.csl_tree.specs.declared.program.Form.{Form, Declare, Set, AddTo, If', While', For', Break, Continue, Return, CallOf, Assert, Block', Print, Par', Row_of-Arm, end_of-Arm, more_of-Arm}
+use Rattle.csl_tree.specs.declared.program.Form.{Row_of-Stmt, end_of-Stmt, more_of-Stmt, Held-Form-If-1}
 use Rattle.csl_tree.specs.declared.program.Form.TheVariants as form
 use Rattle.csl_tree.specs.declared.program.Form as parts
 use Rattle.cal_terms.specs.declared.types.Ty.{Ty}
 use Rattle.csl_tree.specs.declared.name.Name.{Name}
-use Rattle.csl_tree.specs.declared.program.Form.TheBlock.{shape-the_row-Stmt-1, hidden-the_row-Stmt-1, shape-the_row-Stmt-2, hidden-the_row-Stmt-2, shape-the_row-Arm-0, hidden-the_row-Arm-0, back-Form-If-1}
+use Rattle.csl_tree.specs.declared.program.Form.TheBlock.{shape-the_row-Stmt-1, hidden-the_row-Stmt-1, shape-the_row-Stmt-2, hidden-the_row-Stmt-2, shape-the_row-Arm-0, hidden-the_row-Arm-0}
+use Rattle.csl_tree.specs.declared.program.Form.TheBlock.{back-Form-If-1}
 use Rattle.csl_tree.specs.declared.program.UnaryOp.{UnaryOp}
 use Rattle.csl_tree.specs.declared.program.BinaryOp.{BinaryOp}
 use Rattle.csl_tree.specs.declared.program.Node.{Node, Number, Truth, Read, Unary', Binary', Paren', Row_of-Expr, end_of-Expr, more_of-Expr}
@@ -179,7 +181,8 @@ pub body_of : (all : List Function) (name : List ℕ) (f : Function) → functio
 body_of [] name f e = cc
 body_of (g ∷ rest) name f e = by_name (λ i. body_of rest name f i) (bytes_eq g.name.text name) e
   where
-    by_name : (function_named rest name ≡ Some f → body_weight f.body ≤ bodies_weight rest) → (b : Bool) → (if b then Some g else function_named rest name) ≡ Some f → body_weight f.body ≤ bodies_weight (g ∷ rest)
+    by_name : (function_named rest name ≡ Some f → body_weight f.body ≤ bodies_weight rest) → (b : Bool) → (if b then Some g else function_named rest name) ≡ Some f
+        → body_weight f.body ≤ bodies_weight (g ∷ rest)
     by_name later true e =
         let same : g ≡ f = cc in
         let weight : body_weight g.body ≡ body_weight f.body = ap (λ (x : Function). body_weight x.body) same in
@@ -203,7 +206,8 @@ pub in_call_statement : (f : Form) (q : Call) → f ≡ CallOf q → call_weight
 in_call_statement f q is = let w : form_weight f ≡ suc (call_weight q) = ap form_weight is in omega arith
 
 -- a function's body, one level down
-pub in_function : (p : Program) (levels : ℕ) (name : List ℕ) (f : Function) → 0 < levels → Some f ≡ function_named p.functions name → measure p (levels - 1) (suc (body_weight f.body)) < measure p levels 0
+pub in_function : (p : Program) (levels : ℕ) (name : List ℕ) (f : Function) → 0 < levels → Some f ≡ function_named p.functions name
+    → measure p (levels - 1) (suc (body_weight f.body)) < measure p levels 0
 in_function p levels name f some e =
     let small : body_weight f.body ≤ bodies_weight p.functions = body_of p.functions name f (sym e) in
     level_down p levels (suc (body_weight f.body)) some (omega arith)
@@ -233,11 +237,13 @@ in_while f test body is =
     let w : form_weight f ≡ suc (suc (suc (expr_weight test + body_weight body))) = ap form_weight is ∙ ap (λ n. suc (suc (suc (expr_weight test + n)))) (row_is body) in
     omega arith
 
-for_is : (f : Form) (first : Stmt) (test : Expr) (next : Stmt) (body : List Stmt) → f ≡ form.For first test next body → form_weight f ≡ suc (suc (suc (suc (form_weight first.form + 0) + expr_weight test + suc (form_weight next.form + 0) + body_weight body)))
+for_is : (f : Form) (first : Stmt) (test : Expr) (next : Stmt) (body : List Stmt) → f ≡ form.For first test next body
+    → form_weight f ≡ suc (suc (suc (suc (form_weight first.form + 0) + expr_weight test + suc (form_weight next.form + 0) + body_weight body)))
 unfolding shape-the_row-Stmt-2 hidden-the_row-Stmt-2 hidden
 for_is f first test next body is = ap form_weight is ∙ ap (λ n. suc (suc (suc (suc (form_weight first.form + 0) + expr_weight test + suc (form_weight next.form + 0) + n)))) (row_is body)
 
-pub in_for : (f : Form) (first : Stmt) (test : Expr) (next : Stmt) (body : List Stmt) → f ≡ form.For first test next body → suc (suc (expr_weight test + (body_weight body + form_weight next.form))) < form_weight f
+pub in_for : (f : Form) (first : Stmt) (test : Expr) (next : Stmt) (body : List Stmt) → f ≡ form.For first test next body
+    → suc (suc (expr_weight test + (body_weight body + form_weight next.form))) < form_weight f
 in_for f first test next body is = omega (arith, for_is f first test next body is)
 
 pub in_first : (f : Form) (first : Stmt) (test : Expr) (next : Stmt) (body : List Stmt) → f ≡ form.For first test next body → form_weight first.form < form_weight f
@@ -256,7 +262,8 @@ in_block f body is = let w : form_weight f ≡ suc (suc (body_weight body)) = ap
 pub one_arm : (all : List Arm) (i : ℕ) (arm : Arm) → i < length all → arm ≡ get_or all i arm → suc (expr_weight (out-Arm arm).test + body_weight (out-Arm arm).body) < arms_list_weight all
 one_arm [] i arm lt is = absurd (omega arith)
 one_arm (a ∷ rest) zero arm lt is =
-    let w : suc (expr_weight (out-Arm arm).test + body_weight (out-Arm arm).body) ≡ suc (expr_weight (out-Arm a).test + body_weight (out-Arm a).body) = ap (λ (x : Arm). suc (expr_weight (out-Arm x).test + body_weight (out-Arm x).body)) is in
+    let w : suc (expr_weight (out-Arm arm).test + body_weight (out-Arm arm).body) ≡ suc (expr_weight (out-Arm a).test + body_weight (out-Arm a).body) = ap
+    (λ (x : Arm). suc (expr_weight (out-Arm x).test + body_weight (out-Arm x).body)) is in
     omega arith
 one_arm (a ∷ rest) (suc i) arm lt is =
     let below : suc (expr_weight (out-Arm arm).test + body_weight (out-Arm arm).body) < arms_list_weight rest = one_arm rest i arm (omega arith) is in

@@ -1,5 +1,6 @@
 -- The first memory, and a whole run.
-use Rattle.std.proofs.Common.{◌≡◌, ℕ, zero, suc, ℤ, pos, ◌+◌, ◌-◌, ◌<◌, ◌≤◌, length, map, replicate, List, [], ◌∷◌, ◌++◌, Option, Result, Ok, Err, refl, sym, ap, ◌∙◌, subst, arith, append_assoc, append-nil, length-append, get_or}
+use Rattle.std.proofs.Common.{◌≡◌, ℕ, zero, suc, ℤ, pos, ◌+◌, ◌-◌, ◌<◌, ◌≤◌, length, map, replicate, List, [], ◌∷◌, ◌++◌, Option, Result, Ok, Err, refl, sym, ap, ◌∙◌, subst, arith, append_assoc}
+use Rattle.std.proofs.Common.{append-nil, length-append, get_or}
 use Rattle.std.specs.Prelude.{IfOk, OnErr, IsErrOf}
 use Rattle.std.specs.Io.KnownBytes.{Appends}
 use Rattle.cal_base.specs.declared.step.Word.{Word}
@@ -57,7 +58,8 @@ enough k (z ∷ numbers) (suc n) a b la lb = ap (λ m. record { kind = k; value 
 words_are : (kind : WordKind) (values : List Valued) (n : ℕ) → words_from kind values 0 n ≡ memory_of (replicate n kind) (map (λ v. v.number) values ++ replicate n (pos 0))
 words_are kind [] n = nothing_stated kind 0 n
 words_are kind (v ∷ values) zero = refl
-words_are kind (v ∷ values) (suc n) = ap (λ m. record { kind = kind; value = v.number } ∷ m) (after_first kind v values 0 n ∙ words_are kind values n ∙ enough kind (map (λ x. x.number) values) n n (suc n) (omega arith) (omega arith))
+words_are kind (v ∷ values) (suc n) = ap (λ m. record { kind = kind; value = v.number } ∷ m)
+    (after_first kind v values 0 n ∙ words_are kind values n ∙ enough kind (map (λ x. x.number) values) n n (suc n) (omega arith) (omega arith))
 
 pub sub_zero : (n : ℕ) → n - 0 ≡ n
 sub_zero n = omega arith
@@ -69,7 +71,8 @@ pub words_whole : (s : Shared) → words_from s.kind s.values 0 (words_in s) ≡
 words_whole s = words_are s.kind s.values (words_in s)
 
 -- one word more
-pub word_more : (kind : WordKind) (values : List Valued) (before : Memory) (at count : ℕ) (word : Word) → at < count → word ≡ record { kind = kind; value = stated_value values at } → (before ++ word ∷ []) ++ words_from kind values (at + 1) (count - (at + 1)) ≡ before ++ words_from kind values at (count - at)
+pub word_more : (kind : WordKind) (values : List Valued) (before : Memory) (at count : ℕ) (word : Word) → at < count → word ≡ record { kind = kind; value = stated_value values at }
+    → (before ++ word ∷ []) ++ words_from kind values (at + 1) (count - (at + 1)) ≡ before ++ words_from kind values at (count - at)
 word_more kind values before at count word lt is =
     let left : count - at ≡ suc (count - (at + 1)) = omega arith in
     let one : at + 1 ≡ suc at = omega arith in

@@ -178,7 +178,8 @@ module _ (p : Program) (fuel : ℕ) (blocks : List RoutineBlock) (widths : List 
   abbrev pub later_world : Memory → World
   later_world later = record w { store = store.Main later; steps = suc w.steps }
 
-  pub step_done : (later : Memory) (old : Option (List ℕ)) → after (memory_in w.store) (all_of answers_there) ≡ Ok later → Told (open_step p fuel blocks widths w) (Gives tt (later_world later)) old old
+  pub step_done : (later : Memory) (old : Option (List ℕ)) → after (memory_in w.store) (all_of answers_there) ≡ Ok later
+      → Told (open_step p fuel blocks widths w) (Gives tt (later_world later)) old old
   step_done later old e =
       let job : StepJob = record { number = suc w.steps; opening = memory_in w.store; answers = answers_there } in
       record {
@@ -188,7 +189,8 @@ module _ (p : Program) (fuel : ℕ) (blocks : List RoutineBlock) (widths : List 
         same_end = λ next. ap (λ r. (going_on job r (λ m. meaning_of (next tt (later_world m)))).ending) e;
       }
 
-  pub step_failed : (fault : StepFault) (old : Option (List ℕ)) → after (memory_in w.store) (all_of answers_there) ≡ Err fault → Finishes (open_step p fuel blocks widths w) (StepFailed (suc w.steps) fault) old old
+  pub step_failed : (fault : StepFault) (old : Option (List ℕ)) → after (memory_in w.store) (all_of answers_there) ≡ Err fault
+      → Finishes (open_step p fuel blocks widths w) (StepFailed (suc w.steps) fault) old old
   step_failed fault old e =
       let job : StepJob = record { number = suc w.steps; opening = memory_in w.store; answers = answers_there } in
       record {
@@ -227,7 +229,8 @@ module _ (p : Program) (fuel : ℕ) (blocks : List RoutineBlock) (locals : Local
       sym (bind_assoc (widths_of p (calls_to p most_levels) locals blocks w) (λ ns. good_widths (step_widths ns) >>= (λ ws. take_unit >> pure ws)) step_and_on
       ∙ (λ i. and_then (widths_of p (calls_to p most_levels) locals blocks w) (λ ns v. tested (step_widths ns) v i)))
 
-  pub par_stops : (h : Halt) (m : MainHalt) (w' : World) (old : Option (List ℕ)) → Follows (ready_widths p locals blocks w) (Err h) w' → m ≡ main_halt h w'.steps → Tells (in_main p fuel (Stepping blocks) locals w) (Err m) locals w' old old
+  pub par_stops : (h : Halt) (m : MainHalt) (w' : World) (old : Option (List ℕ)) → Follows (ready_widths p locals blocks w) (Err h) w' → m ≡ main_halt h w'.steps
+      → Tells (in_main p fuel (Stepping blocks) locals w) (Err m) locals w' old old
   par_stops h m w' old follows is =
       subst (λ (o : Outcome Went). Tells o (Err m) locals w' old old) (sym par_is)
       (subst (λ x. Tells (and_then (ready_widths p locals blocks w) step_and_on) (Err x) locals w' old old) (sym is)
@@ -237,13 +240,15 @@ module _ (p : Program) (fuel : ℕ) (blocks : List RoutineBlock) (locals : Local
   par_begun : (ws : List ℕ) (w1 : World) → ready_widths p locals blocks w ≡ Gives ws w1 → in_main p fuel (Stepping blocks) locals w ≡ step_and_on ws w1
   par_begun ws w1 e = par_is ∙ ap (λ o. and_then o step_and_on) e
 
-  pub par_halts : (ws ws' : List ℕ) (m : MainHalt) (w1 w2 : World) (old : Option (List ℕ)) → ready_widths p locals blocks w ≡ Gives ws w1 → ws' ≡ ws → TellsOf (open_step p fuel blocks ws' w1) (Err m) w2 old old → Tells (in_main p fuel (Stepping blocks) locals w) (Err m) locals w2 old old
+  pub par_halts : (ws ws' : List ℕ) (m : MainHalt) (w1 w2 : World) (old : Option (List ℕ)) → ready_widths p locals blocks w ≡ Gives ws w1 → ws' ≡ ws
+      → TellsOf (open_step p fuel blocks ws' w1) (Err m) w2 old old → Tells (in_main p fuel (Stepping blocks) locals w) (Err m) locals w2 old old
   par_halts ws ws' m w1 w2 old e same t =
       subst (λ (o : Outcome Went). Tells o (Err m) locals w2 old old) (sym (par_begun ws w1 e))
       (subst (λ (x : List ℕ). Tells (step_and_on x w1) (Err m) locals w2 old old) same
       (halts_went (step_and_on ws' w1) m locals w2 w2 old old (halts_bind (open_step p fuel blocks ws' w1) (λ _. pure (ending.Normal, locals)) m w2 w2 old old t)))
 
-  pub par_done : (ws ws' : List ℕ) (w1 w2 : World) (old : Option (List ℕ)) → ready_widths p locals blocks w ≡ Gives ws w1 → ws' ≡ ws → Told (open_step p fuel blocks ws' w1) (Gives tt w2) old old → Told (in_main p fuel (Stepping blocks) locals w) (Gives (ending.Normal, locals) w2) old old
+  pub par_done : (ws ws' : List ℕ) (w1 w2 : World) (old : Option (List ℕ)) → ready_widths p locals blocks w ≡ Gives ws w1 → ws' ≡ ws → Told (open_step p fuel blocks ws' w1) (Gives tt w2) old old
+      → Told (in_main p fuel (Stepping blocks) locals w) (Gives (ending.Normal, locals) w2) old old
   par_done ws ws' w1 w2 old e same t =
       subst (λ (o : Outcome Went). Told o (Gives (ending.Normal, locals) w2) old old) (sym (par_begun ws w1 e))
       (subst (λ (x : List ℕ). Told (step_and_on x w1) (Gives (ending.Normal, locals) w2) old old) same
@@ -260,25 +265,31 @@ module _ (p : Program) (fuel : ℕ) (blocks : List RoutineBlock) (locals : Local
   good_some : (o : Option (List ℕ)) (ws : List ℕ) (w1 : World) → Some ws ≡ o → good_widths o w1 ≡ Gives ws w1
   good_some o ws w1 e = sym (ap (λ x. good_widths x w1) e)
 
-  pub ready_none : (before numbers shown : List ℤ) (w1 : World) → before ≡ [] → AppendsAll run before w (Ok tt) numbers w1 → shown ≡ numbers → None ≡ step_widths shown → ready_widths p locals blocks w ≡ Stops BadWidth w1
+  pub ready_none : (before numbers shown : List ℤ) (w1 : World) → before ≡ [] → AppendsAll run before w (Ok tt) numbers w1 → shown ≡ numbers → None ≡ step_widths shown
+      → ready_widths p locals blocks w ≡ Stops BadWidth w1
   ready_none before numbers shown w1 none a same e =
       ap (λ o. and_then o (λ ns. good_widths (step_widths ns) >>= (λ ws. take_unit >> pure ws))) (appended_whole run before numbers w w1 (Ok tt) none a refl)
       ∙ ap (λ o. and_then o (λ ws. take_unit >> pure ws)) (good_none (step_widths numbers) w1 (e ∙ ap step_widths same))
 
-  ready_some : (before numbers shown : List ℤ) (ws : List ℕ) (w1 : World) → before ≡ [] → AppendsAll run before w (Ok tt) numbers w1 → shown ≡ numbers → Some ws ≡ step_widths shown → ready_widths p locals blocks w ≡ and_then (take_unit w1) (λ _. pure ws)
+  ready_some : (before numbers shown : List ℤ) (ws : List ℕ) (w1 : World) → before ≡ [] → AppendsAll run before w (Ok tt) numbers w1 → shown ≡ numbers → Some ws ≡ step_widths shown
+      → ready_widths p locals blocks w ≡ and_then (take_unit w1) (λ _. pure ws)
   ready_some before numbers shown ws w1 none a same e =
       ap (λ o. and_then o (λ ns. good_widths (step_widths ns) >>= (λ ws. take_unit >> pure ws))) (appended_whole run before numbers w w1 (Ok tt) none a refl)
       ∙ ap (λ o. and_then o (λ ws. take_unit >> pure ws)) (good_some (step_widths numbers) ws w1 (e ∙ ap step_widths same))
 
-  pub ready_stops : (before numbers shown : List ℤ) (ws : List ℕ) (w1 w2 : World) (h : Halt) → before ≡ [] → AppendsAll run before w (Ok tt) numbers w1 → shown ≡ numbers → Some ws ≡ step_widths shown → Follows (take_unit w1) (Err h) w2 → Follows (ready_widths p locals blocks w) (Err h) w2
+  pub ready_stops : (before numbers shown : List ℤ) (ws : List ℕ) (w1 w2 : World) (h : Halt) → before ≡ [] → AppendsAll run before w (Ok tt) numbers w1 → shown ≡ numbers → Some ws ≡ step_widths shown
+      → Follows (take_unit w1) (Err h) w2 → Follows (ready_widths p locals blocks w) (Err h) w2
   ready_stops before numbers shown ws w1 w2 NoMemory none a same e f = tt
   ready_stops before numbers shown ws w1 w2 (Cause c) none a same e f = ready_some before numbers shown ws w1 none a same e ∙ ap (λ o. and_then o (λ _. pure ws)) f
 
-  pub ready_gives : (before numbers shown : List ℤ) (ws : List ℕ) (w1 w2 : World) → before ≡ [] → AppendsAll run before w (Ok tt) numbers w1 → shown ≡ numbers → Some ws ≡ step_widths shown → take_unit w1 ≡ Gives tt w2 → ready_widths p locals blocks w ≡ Gives ws w2
+  pub ready_gives : (before numbers shown : List ℤ) (ws : List ℕ) (w1 w2 : World) → before ≡ [] → AppendsAll run before w (Ok tt) numbers w1 → shown ≡ numbers → Some ws ≡ step_widths shown
+      → take_unit w1 ≡ Gives tt w2 → ready_widths p locals blocks w ≡ Gives ws w2
   ready_gives before numbers shown ws w1 w2 none a same e f = ready_some before numbers shown ws w1 none a same e ∙ ap (λ o. and_then o (λ _. pure ws)) f
 
 -- a `print`
-pub print_told : (p : Program) (fuel : ℕ) (items : _) (locals : Locals) (w w' : World) (texts : List (List ℕ)) (line : List ℕ) (old new : Option (List ℕ)) → pieces p (calls_to p most_levels) locals items w ≡ Gives texts w' → line ≡ line_of texts → Appends old new line → Told (in_main p fuel (Printing items) locals w) (Gives (ending.Normal, locals) w') old new
+pub print_told : (p : Program) (fuel : ℕ) (items : _) (locals : Locals) (w w' : World) (texts : List (List ℕ)) (line : List ℕ) (old new : Option (List ℕ))
+    → pieces p (calls_to p most_levels) locals items w ≡ Gives texts w' → line ≡ line_of texts → Appends old new line
+    → Told (in_main p fuel (Printing items) locals w) (Gives (ending.Normal, locals) w') old new
 print_told p fuel items locals w w' texts line old new e is written =
     let o : Outcome Went = in_main p fuel (Printing items) locals w in
     let shown : o ≡ ShowsLine (line_of texts) (Gives (ending.Normal, locals) w') = ap (λ x. and_then x (λ ts. show (line_of ts) >> pure (ending.Normal, locals))) e in
@@ -289,14 +300,17 @@ print_told p fuel items locals w w' texts line old new e is written =
       same_end = λ next. ap (λ x. end_by (continued x next)) shown;
     }
 
-pub print_some : (p : Program) (fuel : ℕ) (items : _) (locals : Locals) (w w' : World) (texts : List (List ℕ)) (line front : List ℕ) (old new : Option (List ℕ)) → pieces p (calls_to p most_levels) locals items w ≡ Gives texts w' → line ≡ line_of texts → StartsWith line front → Appends old new front → ToldSome (in_main p fuel (Printing items) locals w) old new
+pub print_some : (p : Program) (fuel : ℕ) (items : _) (locals : Locals) (w w' : World) (texts : List (List ℕ)) (line front : List ℕ) (old new : Option (List ℕ))
+    → pieces p (calls_to p most_levels) locals items w ≡ Gives texts w' → line ≡ line_of texts → StartsWith line front → Appends old new front
+    → ToldSome (in_main p fuel (Printing items) locals w) old new
 print_some p fuel items locals w w' texts line front old new e is starts written =
     let o : Outcome Went = in_main p fuel (Printing items) locals w in
     let shown : o ≡ ShowsLine (line_of texts) (Gives (ending.Normal, locals) w') = ap (λ x. and_then x (λ ts. show (line_of ts) >> pure (ending.Normal, locals))) e in
     record {
       front = front;
       written = written;
-      begins = λ next. subst (λ t. StartsWith t front) (ap (λ t. t ++ text_by (next (ending.Normal, locals) w')) is ∙ sym (ap (λ x. text_by (continued x next)) shown)) (starts_more line front (text_by (next (ending.Normal, locals) w')) starts);
+      begins = λ next. subst (λ t. StartsWith t front) (ap (λ t. t ++ text_by (next (ending.Normal, locals) w')) is ∙ sym (ap (λ x. text_by (continued x next)) shown))
+          (starts_more line front (text_by (next (ending.Normal, locals) w')) starts);
     }
   where
     starts_more : (xs f ys : List ℕ) → StartsWith xs f → StartsWith (xs ++ ys) f
@@ -304,6 +318,8 @@ print_some p fuel items locals w w' texts line front old new e is starts written
     starts_more [] (x ∷ f) ys e' = cc
     starts_more (z ∷ xs) (x ∷ f) ys e' = let same : z ≡ x = cc in let rest : take (length f) xs ≡ f = cc in λ i. same i ∷ starts_more xs f ys rest i
 
-pub print_halts : (p : Program) (fuel : ℕ) (items : _) (locals : Locals) (w w' : World) (m : MainHalt) (old : Option (List ℕ)) → TellsOf (pieces p (calls_to p most_levels) locals items w) (Err m) w' old old → Tells (in_main p fuel (Printing items) locals w) (Err m) locals w' old old
+pub print_halts : (p : Program) (fuel : ℕ) (items : _) (locals : Locals) (w w' : World) (m : MainHalt) (old : Option (List ℕ))
+    → TellsOf (pieces p (calls_to p most_levels) locals items w) (Err m) w' old old → Tells (in_main p fuel (Printing items) locals w) (Err m) locals w' old old
 print_halts p fuel items locals w w' m old t =
-    halts_went (in_main p fuel (Printing items) locals w) m locals w' w' old old (halts_bind (pieces p (calls_to p most_levels) locals items w) (λ ts. show (line_of ts) >> pure (ending.Normal, locals)) m w' w' old old t)
+    halts_went (in_main p fuel (Printing items) locals w) m locals w' w' old old (halts_bind (pieces p (calls_to p most_levels) locals items w)
+    (λ ts. show (line_of ts) >> pure (ending.Normal, locals)) m w' w' old old t)

@@ -19,7 +19,8 @@ use Rattle.type_check.specs.Expressions.{value_faults}
 use Rattle.type_check.specs.Bodies.{locals_in, ends}
 use Rattle.type_check.specs.Statements.{body_of, too_many_locals}
 use Rattle.type_check.specs.Lists.{statements_of, locals_of, routine_names, routine_of}
-use Rattle.type_check.specs.Faults.{IsAccepted, most_functions, most_params, shared_faults, word_faults, with_shared, param_faults, with_params, body_faults, with_own, gives_value, inside_faults, with_function, all_function_faults, global_names, main_faults}
+use Rattle.type_check.specs.Faults.{IsAccepted, most_functions, most_params, shared_faults, word_faults, with_shared, param_faults, with_params, body_faults, with_own, gives_value, inside_faults}
+use Rattle.type_check.specs.Faults.{with_function, all_function_faults, global_names, main_faults}
 use Rattle.type_check.proofs.CleanLemmas.{none_in_first, none_in_second, none_if, accepted_none}
 
 some-fault : (kind : CheckKind) (at : ℕ) → fault kind at ≡ [] → ⊥
@@ -35,19 +36,22 @@ within n positions e = by (slice_get_cases positions n).1
 
 module _ (p : Program) (accepted : IsAccepted p) where
   before-main : shared_faults [] p.shared ++ word_faults 0 p.shared ++ all_function_faults (with_shared [] p.shared) p.functions ++ beyond most_functions (map (λ f. f.name.at) p.functions) ≡ []
-  before-main = none_in_first (shared_faults [] p.shared ++ word_faults 0 p.shared ++ all_function_faults (with_shared [] p.shared) p.functions ++ beyond most_functions (map (λ f. f.name.at) p.functions)) (main_faults (global_names p) p.main) (accepted_none p accepted)
+  before-main = none_in_first (shared_faults [] p.shared ++ word_faults 0 p.shared ++ all_function_faults (with_shared [] p.shared) p.functions
+      ++ beyond most_functions (map (λ f. f.name.at) p.functions)) (main_faults (global_names p) p.main) (accepted_none p accepted)
 
   -- no fault stands in a function of an accepted program
   pub accepted-functions : all_function_faults (with_shared [] p.shared) p.functions ≡ []
   accepted-functions =
       none_in_second (shared_faults [] p.shared ++ word_faults 0 p.shared) (all_function_faults (with_shared [] p.shared) p.functions)
-      (none_in_first (shared_faults [] p.shared ++ word_faults 0 p.shared ++ all_function_faults (with_shared [] p.shared) p.functions) (beyond most_functions (map (λ f. f.name.at) p.functions)) before-main)
+      (none_in_first (shared_faults [] p.shared ++ word_faults 0 p.shared ++ all_function_faults (with_shared [] p.shared) p.functions) (beyond most_functions (map (λ f. f.name.at) p.functions))
+      before-main)
 
   -- it has 256 functions at most
   pub accepted-count : length p.functions ≤ most_functions
   accepted-count =
       let few = within most_functions (map (λ f. f.name.at) p.functions)
-      (none_in_second (shared_faults [] p.shared ++ word_faults 0 p.shared ++ all_function_faults (with_shared [] p.shared) p.functions) (beyond most_functions (map (λ f. f.name.at) p.functions)) before-main) in
+      (none_in_second (shared_faults [] p.shared ++ word_faults 0 p.shared ++ all_function_faults (with_shared [] p.shared) p.functions) (beyond most_functions (map (λ f. f.name.at) p.functions))
+      before-main) in
       rw (← length-map p.functions (λ f. f.name.at)) few
 
 module _ (globals : Names) (f : Function) (rest : List Function) (none : all_function_faults globals (f ∷ rest) ≡ []) where
@@ -66,8 +70,10 @@ module _ (names : Names) (f : Function) (none : inside_faults names f ≡ []) wh
   pub function-body : body_faults names (body.Function f.gives) (with_params names f.params) f.body ≡ []
   function-body =
       none_in_second (param_faults names f.params ++ beyond most_params (map (λ q. q.name.at) f.params)) (body_faults names (body.Function f.gives) (with_params names f.params) f.body)
-      (none_in_first (param_faults names f.params ++ beyond most_params (map (λ q. q.name.at) f.params) ++ body_faults names (body.Function f.gives) (with_params names f.params) f.body) (too_many_locals (map (λ q. q.name) f.params ++ locals_in (form.Block f.body)))
-      (none_in_first (param_faults names f.params ++ beyond most_params (map (λ q. q.name.at) f.params) ++ body_faults names (body.Function f.gives) (with_params names f.params) f.body ++ too_many_locals (map (λ q. q.name) f.params ++ locals_in (form.Block f.body))) (fault_if (gives_value f.gives && not (ends (form.Block f.body))) NoReturn f.name.at) none))
+      (none_in_first (param_faults names f.params ++ beyond most_params (map (λ q. q.name.at) f.params) ++ body_faults names (body.Function f.gives) (with_params names f.params) f.body)
+      (too_many_locals (map (λ q. q.name) f.params ++ locals_in (form.Block f.body)))
+      (none_in_first (param_faults names f.params ++ beyond most_params (map (λ q. q.name.at) f.params) ++ body_faults names (body.Function f.gives) (with_params names f.params) f.body
+      ++ too_many_locals (map (λ q. q.name) f.params ++ locals_in (form.Block f.body))) (fault_if (gives_value f.gives && not (ends (form.Block f.body))) NoReturn f.name.at) none))
 
   -- it has 8 parameters at most
   pub function-params : length f.params ≤ most_params
@@ -75,8 +81,10 @@ module _ (names : Names) (f : Function) (none : inside_faults names f ≡ []) wh
       let few = within most_params (map (λ q. q.name.at) f.params)
       (none_in_second (param_faults names f.params) (beyond most_params (map (λ q. q.name.at) f.params))
       (none_in_first (param_faults names f.params ++ beyond most_params (map (λ q. q.name.at) f.params)) (body_faults names (body.Function f.gives) (with_params names f.params) f.body)
-      (none_in_first (param_faults names f.params ++ beyond most_params (map (λ q. q.name.at) f.params) ++ body_faults names (body.Function f.gives) (with_params names f.params) f.body) (too_many_locals (map (λ q. q.name) f.params ++ locals_in (form.Block f.body)))
-      (none_in_first (param_faults names f.params ++ beyond most_params (map (λ q. q.name.at) f.params) ++ body_faults names (body.Function f.gives) (with_params names f.params) f.body ++ too_many_locals (map (λ q. q.name) f.params ++ locals_in (form.Block f.body))) (fault_if (gives_value f.gives && not (ends (form.Block f.body))) NoReturn f.name.at) none)))) in
+      (none_in_first (param_faults names f.params ++ beyond most_params (map (λ q. q.name.at) f.params) ++ body_faults names (body.Function f.gives) (with_params names f.params) f.body)
+      (too_many_locals (map (λ q. q.name) f.params ++ locals_in (form.Block f.body)))
+      (none_in_first (param_faults names f.params ++ beyond most_params (map (λ q. q.name.at) f.params) ++ body_faults names (body.Function f.gives) (with_params names f.params) f.body
+      ++ too_many_locals (map (λ q. q.name) f.params ++ locals_in (form.Block f.body))) (fault_if (gives_value f.gives && not (ends (form.Block f.body))) NoReturn f.name.at) none)))) in
       rw (← length-map f.params (λ q. q.name.at)) few
 
   -- and its body ends where it has a result
@@ -84,7 +92,8 @@ module _ (names : Names) (f : Function) (none : inside_faults names f ≡ []) wh
   function-ends has =
       by (gives_value f.gives) (ends (form.Block f.body)) has
       (none_if (gives_value f.gives && not (ends (form.Block f.body))) NoReturn f.name.at
-      (none_in_second (param_faults names f.params ++ beyond most_params (map (λ q. q.name.at) f.params) ++ body_faults names (body.Function f.gives) (with_params names f.params) f.body ++ too_many_locals (map (λ q. q.name) f.params ++ locals_in (form.Block f.body))) (fault_if (gives_value f.gives && not (ends (form.Block f.body))) NoReturn f.name.at) none))
+      (none_in_second (param_faults names f.params ++ beyond most_params (map (λ q. q.name.at) f.params) ++ body_faults names (body.Function f.gives) (with_params names f.params) f.body
+      ++ too_many_locals (map (λ q. q.name) f.params ++ locals_in (form.Block f.body))) (fault_if (gives_value f.gives && not (ends (form.Block f.body))) NoReturn f.name.at) none))
     where
       by : (gives ended : Bool) → gives ≡ true → gives && not ended ≡ false → ended ≡ true
       by true true has e = refl
@@ -96,12 +105,23 @@ module _ (globals : Names) (here : Body) (names : Names) (b : RoutineBlock) (non
   pub routine-width : value_faults here names typed.Int (out-RoutineBlock b).width ≡ []
   routine-width =
       none_in_first (value_faults here names typed.Int (out-RoutineBlock b).width) (taken globals (out-RoutineBlock b).width_name)
-      (none_in_first (value_faults here names typed.Int (out-RoutineBlock b).width ++ taken globals (out-RoutineBlock b).width_name) (taken (declare globals (out-RoutineBlock b).width_name (Local ty.Int)) (out-RoutineBlock b).id_name)
-      (none_in_first (value_faults here names typed.Int (out-RoutineBlock b).width ++ taken globals (out-RoutineBlock b).width_name ++ taken (declare globals (out-RoutineBlock b).width_name (Local ty.Int)) (out-RoutineBlock b).id_name) (statements_of globals (body_of body.Routine) (routine_names globals (out-RoutineBlock b).width_name (out-RoutineBlock b).id_name) (out-RoutineBlock b).body)
-      (none_in_first (value_faults here names typed.Int (out-RoutineBlock b).width ++ taken globals (out-RoutineBlock b).width_name ++ taken (declare globals (out-RoutineBlock b).width_name (Local ty.Int)) (out-RoutineBlock b).id_name ++ statements_of globals (body_of body.Routine) (routine_names globals (out-RoutineBlock b).width_name (out-RoutineBlock b).id_name) (out-RoutineBlock b).body) (too_many_locals ((out-RoutineBlock b).width_name ∷ (out-RoutineBlock b).id_name ∷ locals_of (out-RoutineBlock b).body)) none)))
+      (none_in_first (value_faults here names typed.Int (out-RoutineBlock b).width ++ taken globals (out-RoutineBlock b).width_name)
+      (taken (declare globals (out-RoutineBlock b).width_name (Local ty.Int)) (out-RoutineBlock b).id_name)
+      (none_in_first (value_faults here names typed.Int (out-RoutineBlock b).width ++ taken globals (out-RoutineBlock b).width_name
+      ++ taken (declare globals (out-RoutineBlock b).width_name (Local ty.Int)) (out-RoutineBlock b).id_name)
+      (statements_of globals (body_of body.Routine) (routine_names globals (out-RoutineBlock b).width_name (out-RoutineBlock b).id_name) (out-RoutineBlock b).body)
+      (none_in_first (value_faults here names typed.Int (out-RoutineBlock b).width ++ taken globals (out-RoutineBlock b).width_name
+      ++ taken (declare globals (out-RoutineBlock b).width_name (Local ty.Int)) (out-RoutineBlock b).id_name
+      ++ statements_of globals (body_of body.Routine) (routine_names globals (out-RoutineBlock b).width_name (out-RoutineBlock b).id_name) (out-RoutineBlock b).body)
+      (too_many_locals ((out-RoutineBlock b).width_name ∷ (out-RoutineBlock b).id_name ∷ locals_of (out-RoutineBlock b).body)) none)))
 
   -- nor in its body
   pub routine-body : statements_of globals (body_of body.Routine) (routine_names globals (out-RoutineBlock b).width_name (out-RoutineBlock b).id_name) (out-RoutineBlock b).body ≡ []
   routine-body =
-      none_in_second (value_faults here names typed.Int (out-RoutineBlock b).width ++ taken globals (out-RoutineBlock b).width_name ++ taken (declare globals (out-RoutineBlock b).width_name (Local ty.Int)) (out-RoutineBlock b).id_name) (statements_of globals (body_of body.Routine) (routine_names globals (out-RoutineBlock b).width_name (out-RoutineBlock b).id_name) (out-RoutineBlock b).body)
-      (none_in_first (value_faults here names typed.Int (out-RoutineBlock b).width ++ taken globals (out-RoutineBlock b).width_name ++ taken (declare globals (out-RoutineBlock b).width_name (Local ty.Int)) (out-RoutineBlock b).id_name ++ statements_of globals (body_of body.Routine) (routine_names globals (out-RoutineBlock b).width_name (out-RoutineBlock b).id_name) (out-RoutineBlock b).body) (too_many_locals ((out-RoutineBlock b).width_name ∷ (out-RoutineBlock b).id_name ∷ locals_of (out-RoutineBlock b).body)) none)
+      none_in_second (value_faults here names typed.Int (out-RoutineBlock b).width ++ taken globals (out-RoutineBlock b).width_name
+      ++ taken (declare globals (out-RoutineBlock b).width_name (Local ty.Int)) (out-RoutineBlock b).id_name)
+      (statements_of globals (body_of body.Routine) (routine_names globals (out-RoutineBlock b).width_name (out-RoutineBlock b).id_name) (out-RoutineBlock b).body)
+      (none_in_first (value_faults here names typed.Int (out-RoutineBlock b).width ++ taken globals (out-RoutineBlock b).width_name
+      ++ taken (declare globals (out-RoutineBlock b).width_name (Local ty.Int)) (out-RoutineBlock b).id_name
+      ++ statements_of globals (body_of body.Routine) (routine_names globals (out-RoutineBlock b).width_name (out-RoutineBlock b).id_name) (out-RoutineBlock b).body)
+      (too_many_locals ((out-RoutineBlock b).width_name ∷ (out-RoutineBlock b).id_name ∷ locals_of (out-RoutineBlock b).body)) none)

@@ -1,5 +1,6 @@
 -- The first fault of the sorted list is the first of the faults as they were found.
-use Rattle.std.proofs.Common.{◌≡◌, ◌↔◌, ◌⊎◌, ◌∙◌, ℕ, zero, suc, ◌+◌, ◌*◌, ◌<◌, ◌≤◌, Bool, true, false, nat_lt, nat_eq, ◌&&◌, ◌||◌, if◌then◌else◌, List, [], ◌∷◌, fold, Option, Some, None, refl, sym, ap, subst, inl, inr, le_refl, arith, ltb-true, ltb-false, eqb-true, eq-eqb}
+use Rattle.std.proofs.Common.{◌≡◌, ◌↔◌, ◌⊎◌, ◌∙◌, ℕ, zero, suc, ◌+◌, ◌*◌, ◌<◌, ◌≤◌, Bool, true, false, nat_lt, nat_eq, ◌&&◌, ◌||◌, if◌then◌else◌, List, [], ◌∷◌, fold, Option, Some, None, refl, sym}
+use Rattle.std.proofs.Common.{ap, subst, inl, inr, le_refl, arith, ltb-true, ltb-false, eqb-true, eq-eqb}
 use Rattle.std.specs.List.{AllByRecursion, Contains}
 use Rattle.type_check.specs.declared.fault.Fault.{Fault}
 use Rattle.type_check.specs.declared.fault.CheckKind.{CheckKind}

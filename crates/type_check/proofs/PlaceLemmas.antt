@@ -150,7 +150,8 @@ last_or (y ∷ xs) last x (suc i) e = elim (last_or xs last x i e) [
   | inr h ↦ inr (h.0, ap suc h.1)
 ]
 
-module _ {A : Type 0} (places new : BTreeMap (Vec ℕ A) ℕ) (names : Names) (have : HavePlaces places names) (key : Vec ℕ A) (name : List ℕ) (same : key.items ≡ name) (absent : lookup (bytes_eq name) names ≡ None)
+module _ {A : Type 0} (places new : BTreeMap (Vec ℕ A) ℕ) (names : Names) (have : HavePlaces places names) (key : Vec ℕ A) (name : List ℕ) (same : key.items ≡ name)
+    (absent : lookup (bytes_eq name) names ≡ None)
     (inserted : new.entries ≡ insert_entry (λ x y. slice_cmp nat_cmp x.items y.items) places.entries key (length names)) where
   placed : (other : List ℕ) → place_among new other ≡ cond (bytes_eq name other) (Some (length names)) (place_among places other)
   placed other =

@@ -7,7 +7,8 @@ use Rattle.csl_tree.specs.declared.program.Shared.{Shared}
 use Rattle.type_check.specs.declared.fault.CheckKind.TheVariants.{Limit}
 use Rattle.type_check.specs.Listed.{fault, beyond}
 use Rattle.type_check.specs.Names.{Names, taken, declare}
-use Rattle.type_check.specs.Faults.{IsAccepted, most_words, most_functions, good_size, words_of, natural, size_faults, value_faults, stands_for, shared_faults, word_faults, with_shared, all_function_faults, global_names, main_faults}
+use Rattle.type_check.specs.Faults.{IsAccepted, most_words, most_functions, good_size, words_of, natural, size_faults, value_faults, stands_for, shared_faults, word_faults, with_shared}
+use Rattle.type_check.specs.Faults.{all_function_faults, global_names, main_faults}
 use Rattle.type_check.specs.Words.{IsGoodSize, IsSized, AreSized, words_taken, total_words}
 use Rattle.type_check.proofs.CleanLemmas.{none_in_first, none_in_second, none_if, accepted_none}
 
@@ -70,7 +71,8 @@ accepted-sized p e =
     (none_in_first (shared_faults [] p.shared) (word_faults 0 p.shared)
     (none_in_first (shared_faults [] p.shared ++ word_faults 0 p.shared) (all_function_faults (with_shared [] p.shared) p.functions)
     (none_in_first (shared_faults [] p.shared ++ word_faults 0 p.shared ++ all_function_faults (with_shared [] p.shared) p.functions) (beyond most_functions (map (λ f. f.name.at) p.functions))
-    (none_in_first (shared_faults [] p.shared ++ word_faults 0 p.shared ++ all_function_faults (with_shared [] p.shared) p.functions ++ beyond most_functions (map (λ f. f.name.at) p.functions)) (main_faults (global_names p) p.main)
+    (none_in_first (shared_faults [] p.shared ++ word_faults 0 p.shared ++ all_function_faults (with_shared [] p.shared) p.functions ++ beyond most_functions (map (λ f. f.name.at) p.functions))
+    (main_faults (global_names p) p.main)
     (accepted_none p e)))))
 
 -- an accepted program takes 262,144 words at most
@@ -79,7 +81,8 @@ accepted-words p e =
     let none = none_in_second (shared_faults [] p.shared) (word_faults 0 p.shared)
     (none_in_first (shared_faults [] p.shared ++ word_faults 0 p.shared) (all_function_faults (with_shared [] p.shared) p.functions)
     (none_in_first (shared_faults [] p.shared ++ word_faults 0 p.shared ++ all_function_faults (with_shared [] p.shared) p.functions) (beyond most_functions (map (λ f. f.name.at) p.functions))
-    (none_in_first (shared_faults [] p.shared ++ word_faults 0 p.shared ++ all_function_faults (with_shared [] p.shared) p.functions ++ beyond most_functions (map (λ f. f.name.at) p.functions)) (main_faults (global_names p) p.main)
+    (none_in_first (shared_faults [] p.shared ++ word_faults 0 p.shared ++ all_function_faults (with_shared [] p.shared) p.functions ++ beyond most_functions (map (λ f. f.name.at) p.functions))
+    (main_faults (global_names p) p.main)
     (accepted_none p e)))) in
     let bounded = words-bounded 0 p.shared (omega arith) (accepted-sized p e) none in
     omega arith

@@ -26,7 +26,8 @@ use Rattle.csl_tree.specs.declared.program.RoutineBlock.{RoutineBlock, roll-Rout
 use Rattle.csl_tree.specs.declared.program.Arm.{Arm, roll-Arm}
 use Rattle.type_check.specs.declared.fault.Fault.{Fault}
 use Rattle.type_check.specs.declared.fault.CheckKind.{CheckKind}
-use Rattle.type_check.specs.declared.fault.CheckKind.TheVariants.{UnknownName, NameTaken, WrongUse, WrongType, WrongCount, NoReturn, WrongReturn, NotInLoop, OnlyInMain, TallyUsed, Limit}
+use Rattle.type_check.specs.declared.fault.CheckKind.TheVariants.{UnknownName, NameTaken, WrongUse, WrongType, WrongCount, NoReturn}
+use Rattle.type_check.specs.declared.fault.CheckKind.TheVariants.{WrongReturn, NotInLoop, OnlyInMain, TallyUsed, Limit}
 use Rattle.type_check.specs.Faults.{fault_list}
 
 -- ---- parts of trees; a place comes before what stands there, but for names
@@ -115,7 +116,8 @@ abbrev pub tally_read : Program
 tally_read = program
     (tally (named (codes "t") 19) ∷ [])
     []
-    (stmt 31 (form.Par (routine 40 (number 48 1) (named (codes "w") 55) (named (codes "id") 62) (stmt 68 (form.Declare ty.Int (named (codes "x") 72) (var (named (codes "t") 76))) ∷ []) ∷ [])) ∷ [])
+    (stmt 31 (form.Par (routine 40 (number 48 1) (named (codes "w") 55) (named (codes "id") 62)
+    (stmt 68 (form.Declare ty.Int (named (codes "x") 72) (var (named (codes "t") 76))) ∷ []) ∷ [])) ∷ [])
 
 -- in a routine a tally word is not read
 abbrev pub ReadInARoutine : Type 0
@@ -126,7 +128,8 @@ abbrev pub tally_by_call : Program
 tally_by_call = program
     (tally (named (codes "t") 19) ∷ [])
     (function gives.Nothing (named (codes "f") 29) [] (stmt 35 (form.Set (place (named (codes "t") 35)) (number 39 1)) ∷ []) ∷ [])
-    (stmt 51 (form.Par (routine 60 (number 68 1) (named (codes "w") 75) (named (codes "id") 82) (stmt 88 (form.CallOf (call (named (codes "f") 88) [])) ∷ []) ∷ [])) ∷ [])
+    (stmt 51 (form.Par (routine 60 (number 68 1) (named (codes "w") 75) (named (codes "id") 82)
+    (stmt 88 (form.CallOf (call (named (codes "f") 88) [])) ∷ []) ∷ [])) ∷ [])
 
 -- nor is a function called that sets one
 abbrev pub SetByACall : Type 0
@@ -136,8 +139,18 @@ SetByACall = fault_list tally_by_call ≡ at 88 TallyUsed ∷ []
 abbrev pub accepted : Program
 accepted = program
     (array (named (codes "a") 13) 15 4 [] ∷ [])
-    (function gives.Int (named (codes "f") 25) (param ty.Int (named (codes "n") 31) ∷ []) (stmt 36 (form.If (arm (expr 40 (node.Binary Lt (var (named (codes "n") 40)) (number 44 1))) (stmt 49 (form.Return (Some (number 56 0))) ∷ []) ∷ []) (Some (stmt 68 (form.Return (Some (expr 75 (node.Read (item_of (named (codes "a") 75) (var (named (codes "n") 77))))))) ∷ []))) ∷ []) ∷ [])
-    (stmt 92 (form.Par (routine 101 (number 109 4) (named (codes "w") 116) (named (codes "id") 123) (stmt 129 (form.Set (item_of (named (codes "a") 129) (var (named (codes "id") 131))) (var (named (codes "id") 137))) ∷ []) ∷ [])) ∷ stmt 151 (form.For (stmt 156 (form.Declare ty.Int (named (codes "i") 160) (number 164 0))) (expr 167 (node.Binary Lt (var (named (codes "i") 167)) (number 171 4))) (stmt 174 (form.AddTo (place (named (codes "i") 174)) (number 179 1))) (stmt 184 (form.Print (item.Value (expr 190 (node.CallOf (call (named (codes "f") 190) ((var (named (codes "i") 192)) ∷ [])))) ∷ [])) ∷ [])) ∷ [])
+    (function gives.Int (named (codes "f") 25) (param ty.Int (named (codes "n") 31) ∷ [])
+    (stmt 36 (form.If (arm (expr 40 (node.Binary Lt (var (named (codes "n") 40)) (number 44 1)))
+    (stmt 49 (form.Return (Some (number 56 0))) ∷ []) ∷ []) (Some
+    (stmt 68 (form.Return (Some (expr 75 (node.Read (item_of (named (codes "a") 75) (var (named (codes "n") 77))))))) ∷ []))) ∷ [])
+    ∷ [])
+    (stmt 92 (form.Par (routine 101 (number 109 4) (named (codes "w") 116) (named (codes "id") 123)
+    (stmt 129 (form.Set (item_of (named (codes "a") 129) (var (named (codes "id") 131))) (var (named (codes "id") 137))) ∷ []) ∷ [])) ∷
+    stmt 151 (form.For (stmt 156 (form.Declare ty.Int (named (codes "i") 160) (number 164 0)))
+    (expr 167 (node.Binary Lt (var (named (codes "i") 167)) (number 171 4)))
+    (stmt 174 (form.AddTo (place (named (codes "i") 174)) (number 179 1)))
+    (stmt 184 (form.Print (item.Value (expr 190 (node.CallOf (call (named (codes "f") 190) ((var (named (codes "i") 192)) ∷ []))))
+    ∷ [])) ∷ [])) ∷ [])
 
 -- no fault at all
 abbrev pub NoFaults : Type 0
@@ -148,7 +161,8 @@ abbrev pub own_value : Program
 own_value = program
     []
     []
-    (stmt 18 (form.Declare ty.Int (named (codes "x") 22) (var (named (codes "x") 26))) ∷ stmt 29 (form.Block (stmt 31 (form.Declare ty.Int (named (codes "x") 35) (number 39 1)) ∷ [])) ∷ [])
+    (stmt 18 (form.Declare ty.Int (named (codes "x") 22) (var (named (codes "x") 26))) ∷ stmt 29
+    (form.Block (stmt 31 (form.Declare ty.Int (named (codes "x") 35) (number 39 1)) ∷ [])) ∷ [])
 
 -- a local is not visible in its own value, but in the blocks inside its own
 abbrev pub OwnValue : Type 0
@@ -159,7 +173,10 @@ abbrev pub block_ends : Program
 block_ends = program
     []
     []
-    (stmt 18 (form.Block (stmt 20 (form.Declare ty.Int (named (codes "x") 24) (number 28 1)) ∷ stmt 31 (form.Set (place (named (codes "x") 31)) (number 35 2)) ∷ [])) ∷ stmt 40 (form.Set (place (named (codes "x") 40)) (number 44 3)) ∷ stmt 47 (form.Declare ty.Int (named (codes "x") 51) (number 55 4)) ∷ stmt 58 (form.Print (item.Value (var (named (codes "x") 64)) ∷ [])) ∷ [])
+    (stmt 18 (form.Block (stmt 20 (form.Declare ty.Int (named (codes "x") 24) (number 28 1)) ∷ stmt 31
+    (form.Set (place (named (codes "x") 31)) (number 35 2)) ∷ [])) ∷ stmt 40 (form.Set (place (named (codes "x") 40)) (number 44 3)) ∷
+    stmt 47 (form.Declare ty.Int (named (codes "x") 51) (number 55 4)) ∷ stmt 58
+    (form.Print (item.Value (var (named (codes "x") 64)) ∷ [])) ∷ [])
 
 -- a local ends with its block
 abbrev pub EndOfABlock : Type 0
@@ -170,7 +187,15 @@ abbrev pub for_ends : Program
 for_ends = program
     []
     []
-    (stmt 18 (form.For (stmt 23 (form.Declare ty.Int (named (codes "i") 27) (number 31 0))) (expr 34 (node.Binary Lt (var (named (codes "i") 34)) (number 38 2))) (stmt 41 (form.AddTo (place (named (codes "i") 41)) (number 46 1))) (stmt 51 (form.Declare ty.Int (named (codes "j") 55) (var (named (codes "i") 59))) ∷ [])) ∷ stmt 64 (form.For (stmt 69 (form.Declare ty.Int (named (codes "i") 73) (number 77 0))) (expr 80 (node.Binary Lt (var (named (codes "i") 80)) (number 84 2))) (stmt 87 (form.AddTo (place (named (codes "i") 87)) (number 92 1))) (stmt 97 (form.Declare ty.Int (named (codes "j") 101) (var (named (codes "i") 105))) ∷ [])) ∷ stmt 110 (form.Set (place (named (codes "i") 110)) (number 114 1)) ∷ [])
+    (stmt 18 (form.For (stmt 23 (form.Declare ty.Int (named (codes "i") 27) (number 31 0)))
+    (expr 34 (node.Binary Lt (var (named (codes "i") 34)) (number 38 2)))
+    (stmt 41 (form.AddTo (place (named (codes "i") 41)) (number 46 1)))
+    (stmt 51 (form.Declare ty.Int (named (codes "j") 55) (var (named (codes "i") 59))) ∷ [])) ∷ stmt 64
+    (form.For (stmt 69 (form.Declare ty.Int (named (codes "i") 73) (number 77 0)))
+    (expr 80 (node.Binary Lt (var (named (codes "i") 80)) (number 84 2)))
+    (stmt 87 (form.AddTo (place (named (codes "i") 87)) (number 92 1)))
+    (stmt 97 (form.Declare ty.Int (named (codes "j") 101) (var (named (codes "i") 105))) ∷ [])) ∷ stmt 110
+    (form.Set (place (named (codes "i") 110)) (number 114 1)) ∷ [])
 
 -- the local of a `for` ends with it
 abbrev pub EndOfAFor : Type 0
@@ -181,7 +206,11 @@ abbrev pub main_local_unseen : Program
 main_local_unseen = program
     (scalar (named (codes "s") 13) ∷ [])
     []
-    (stmt 25 (form.Declare ty.Int (named (codes "x") 29) (number 33 1)) ∷ stmt 36 (form.Par (routine 45 (var (named (codes "x") 53)) (named (codes "w") 60) (named (codes "id") 67) (stmt 73 (form.Set (place (named (codes "s") 73)) (var (named (codes "x") 77))) ∷ stmt 80 (form.Declare ty.Int (named (codes "x") 84) (expr 88 (node.Binary Add (var (named (codes "w") 88)) (var (named (codes "id") 92))))) ∷ []) ∷ routine 98 (number 106 1) (named (codes "w") 113) (named (codes "w") 120) [] ∷ [])) ∷ [])
+    (stmt 25 (form.Declare ty.Int (named (codes "x") 29) (number 33 1)) ∷ stmt 36
+    (form.Par (routine 45 (var (named (codes "x") 53)) (named (codes "w") 60) (named (codes "id") 67)
+    (stmt 73 (form.Set (place (named (codes "s") 73)) (var (named (codes "x") 77))) ∷ stmt 80
+    (form.Declare ty.Int (named (codes "x") 84) (expr 88 (node.Binary Add (var (named (codes "w") 88)) (var (named (codes "id") 92)))))
+    ∷ []) ∷ routine 98 (number 106 1) (named (codes "w") 113) (named (codes "w") 120) [] ∷ [])) ∷ [])
 
 -- a routine does not see the locals of main, but its width does
 abbrev pub LocalsOfMain : Type 0
@@ -191,7 +220,10 @@ LocalsOfMain = fault_list main_local_unseen ≡ at 77 UnknownName ∷ at 120 Nam
 abbrev pub called_early : Program
 called_early = program
     []
-    (function gives.Int (named (codes "f") 15) [] (stmt 21 (form.Return (Some (expr 28 (node.CallOf (call (named (codes "g") 28) []))))) ∷ []) ∷ function gives.Int (named (codes "g") 39) [] (stmt 45 (form.Return (Some (expr 52 (node.Binary Add (expr 52 (node.CallOf (call (named (codes "g") 52) []))) (expr 58 (node.CallOf (call (named (codes "f") 58) []))))))) ∷ []) ∷ [])
+    (function gives.Int (named (codes "f") 15) [] (stmt 21 (form.Return (Some (expr 28 (node.CallOf (call (named (codes "g") 28) [])))))
+    ∷ []) ∷ function gives.Int (named (codes "g") 39) [] (stmt 45
+    (form.Return (Some (expr 52 (node.Binary Add (expr 52 (node.CallOf (call (named (codes "g") 52) [])))
+    (expr 58 (node.CallOf (call (named (codes "f") 58) []))))))) ∷ []) ∷ [])
     []
 
 -- a function is visible in itself and behind, not before
@@ -203,29 +235,52 @@ abbrev pub wrong_uses : Program
 wrong_uses = program
     (array (named (codes "a") 13) 15 2 [] ∷ scalar (named (codes "x") 23) ∷ tally (named (codes "t") 36) ∷ [])
     (function gives.Nothing (named (codes "f") 46) [] [] ∷ [])
-    (stmt 61 (form.Set (place (named (codes "a") 61)) (number 65 1)) ∷ stmt 68 (form.Set (item_of (named (codes "x") 68) (number 70 0)) (number 75 1)) ∷ stmt 78 (form.AddTo (item_of (named (codes "t") 78) (number 80 0)) (number 86 1)) ∷ stmt 89 (form.Set (place (named (codes "f") 89)) (number 93 1)) ∷ stmt 96 (form.CallOf (call (named (codes "x") 96) [])) ∷ stmt 101 (form.Declare ty.Int (named (codes "y") 105) (expr 109 (node.Binary Add (var (named (codes "a") 109)) (var (named (codes "f") 113))))) ∷ stmt 116 (form.AddTo (item_of (named (codes "y") 116) (number 118 0)) (number 124 1)) ∷ [])
+    (stmt 61 (form.Set (place (named (codes "a") 61)) (number 65 1)) ∷ stmt 68
+    (form.Set (item_of (named (codes "x") 68) (number 70 0)) (number 75 1)) ∷ stmt 78
+    (form.AddTo (item_of (named (codes "t") 78) (number 80 0)) (number 86 1)) ∷ stmt 89
+    (form.Set (place (named (codes "f") 89)) (number 93 1)) ∷ stmt 96 (form.CallOf (call (named (codes "x") 96) [])) ∷ stmt 101
+    (form.Declare ty.Int (named (codes "y") 105) (expr 109 (node.Binary Add (var (named (codes "a") 109))
+    (var (named (codes "f") 113))))) ∷ stmt 116 (form.AddTo (item_of (named (codes "y") 116) (number 118 0)) (number 124 1)) ∷ [])
 
 -- each wrong use of a name
 abbrev pub WrongUses : Type 0
-WrongUses = fault_list wrong_uses ≡ at 61 WrongUse ∷ at 68 WrongUse ∷ at 78 WrongUse ∷ at 89 WrongUse ∷ at 96 WrongUse ∷ at 109 WrongUse ∷ at 113 WrongUse ∷ at 116 WrongUse ∷ []
+WrongUses = fault_list wrong_uses ≡ at 61 WrongUse ∷ at 68 WrongUse ∷ at 78 WrongUse ∷ at 89 WrongUse ∷ at 96 WrongUse ∷ at 109 WrongUse ∷
+    at 113 WrongUse ∷ at 116 WrongUse ∷ []
 
 -- shared { int a[2]; } void f() { } main { int x = true; bool b = 1 < false; x = -b; b = !1; a[b] = 1; b = f() == 1; b = 1 == b; if (x) { } print(f(), x, b); b += true; assert((1)); }
 abbrev pub wrong_types : Program
 wrong_types = program
     (array (named (codes "a") 13) 15 2 [] ∷ [])
     (function gives.Nothing (named (codes "f") 26) [] [] ∷ [])
-    (stmt 41 (form.Declare ty.Int (named (codes "x") 45) (truth 49 true)) ∷ stmt 55 (form.Declare ty.Bool (named (codes "b") 60) (expr 64 (node.Binary Lt (number 64 1) (truth 68 false)))) ∷ stmt 75 (form.Set (place (named (codes "x") 75)) (expr 79 (node.Unary Neg (var (named (codes "b") 80))))) ∷ stmt 83 (form.Set (place (named (codes "b") 83)) (expr 87 (node.Unary Not (number 88 1)))) ∷ stmt 91 (form.Set (item_of (named (codes "a") 91) (var (named (codes "b") 93))) (number 98 1)) ∷ stmt 101 (form.Set (place (named (codes "b") 101)) (expr 105 (node.Binary Eq (expr 105 (node.CallOf (call (named (codes "f") 105) []))) (number 112 1)))) ∷ stmt 115 (form.Set (place (named (codes "b") 115)) (expr 119 (node.Binary Eq (number 119 1) (var (named (codes "b") 124))))) ∷ stmt 127 (form.If (arm (var (named (codes "x") 131)) [] ∷ []) None) ∷ stmt 138 (form.Print (item.Value (expr 144 (node.CallOf (call (named (codes "f") 144) []))) ∷ item.Value (var (named (codes "x") 149)) ∷ item.Value (var (named (codes "b") 152)) ∷ [])) ∷ stmt 156 (form.AddTo (place (named (codes "b") 156)) (truth 161 true)) ∷ stmt 167 (form.Assert (expr 174 (node.Paren (number 175 1)))) ∷ [])
+    (stmt 41 (form.Declare ty.Int (named (codes "x") 45) (truth 49 true)) ∷ stmt 55
+    (form.Declare ty.Bool (named (codes "b") 60) (expr 64 (node.Binary Lt (number 64 1) (truth 68 false)))) ∷ stmt 75
+    (form.Set (place (named (codes "x") 75)) (expr 79 (node.Unary Neg (var (named (codes "b") 80))))) ∷ stmt 83
+    (form.Set (place (named (codes "b") 83)) (expr 87 (node.Unary Not (number 88 1)))) ∷ stmt 91
+    (form.Set (item_of (named (codes "a") 91) (var (named (codes "b") 93))) (number 98 1)) ∷ stmt 101
+    (form.Set (place (named (codes "b") 101)) (expr 105 (node.Binary Eq (expr 105 (node.CallOf (call (named (codes "f") 105) [])))
+    (number 112 1)))) ∷ stmt 115 (form.Set (place (named (codes "b") 115))
+    (expr 119 (node.Binary Eq (number 119 1) (var (named (codes "b") 124))))) ∷ stmt 127
+    (form.If (arm (var (named (codes "x") 131)) [] ∷ []) None) ∷ stmt 138
+    (form.Print (item.Value (expr 144 (node.CallOf (call (named (codes "f") 144) []))) ∷ item.Value (var (named (codes "x") 149)) ∷
+    item.Value (var (named (codes "b") 152)) ∷ [])) ∷ stmt 156 (form.AddTo (place (named (codes "b") 156)) (truth 161 true)) ∷ stmt 167
+    (form.Assert (expr 174 (node.Paren (number 175 1)))) ∷ [])
 
 -- each wrong type
 abbrev pub WrongTypes : Type 0
-WrongTypes = fault_list wrong_types ≡ at 49 WrongType ∷ at 68 WrongType ∷ at 80 WrongType ∷ at 88 WrongType ∷ at 93 WrongType ∷ at 105 WrongType ∷ at 112 WrongType ∷ at 124 WrongType ∷ at 131 WrongType ∷ at 144 WrongType ∷ at 156 WrongType ∷ at 174 WrongType ∷ []
+WrongTypes = fault_list wrong_types ≡ at 49 WrongType ∷ at 68 WrongType ∷ at 80 WrongType ∷ at 88 WrongType ∷ at 93 WrongType ∷ at 105
+    WrongType ∷ at 112 WrongType ∷ at 124 WrongType ∷ at 131 WrongType ∷ at 144 WrongType ∷ at 156 WrongType ∷ at 174 WrongType ∷ []
 
 -- shared { } main { int x = 1; bool b = y + 1; x = (1 + true) * 2; b = 2 < 1 + b; }
 abbrev pub bad_rests : Program
 bad_rests = program
     []
     []
-    (stmt 18 (form.Declare ty.Int (named (codes "x") 22) (number 26 1)) ∷ stmt 29 (form.Declare ty.Bool (named (codes "b") 34) (expr 38 (node.Binary Add (var (named (codes "y") 38)) (number 42 1)))) ∷ stmt 45 (form.Set (place (named (codes "x") 45)) (expr 49 (node.Binary Mul (expr 49 (node.Paren (expr 50 (node.Binary Add (number 50 1) (truth 54 true))))) (number 62 2)))) ∷ stmt 65 (form.Set (place (named (codes "b") 65)) (expr 69 (node.Binary Lt (number 69 2) (expr 73 (node.Binary Add (number 73 1) (var (named (codes "b") 77))))))) ∷ [])
+    (stmt 18 (form.Declare ty.Int (named (codes "x") 22) (number 26 1)) ∷ stmt 29
+    (form.Declare ty.Bool (named (codes "b") 34) (expr 38 (node.Binary Add (var (named (codes "y") 38)) (number 42 1)))) ∷ stmt 45
+    (form.Set (place (named (codes "x") 45)) (expr 49 (node.Binary Mul
+    (expr 49 (node.Paren (expr 50 (node.Binary Add (number 50 1) (truth 54 true))))) (number 62 2)))) ∷ stmt 65
+    (form.Set (place (named (codes "b") 65)) (expr 69 (node.Binary Lt (number 69 2)
+    (expr 73 (node.Binary Add (number 73 1) (var (named (codes "b") 77))))))) ∷ [])
 
 -- no fault rests on a part that is bad
 abbrev pub BadParts : Type 0
@@ -235,30 +290,48 @@ BadParts = fault_list bad_rests ≡ at 38 UnknownName ∷ at 54 WrongType ∷ at
 abbrev pub calls : Program
 calls = program
     []
-    (function gives.Int (named (codes "f") 15) (param ty.Int (named (codes "n") 21) ∷ param ty.Bool (named (codes "b") 29) ∷ []) (stmt 34 (form.Return (Some (var (named (codes "n") 41)))) ∷ []) ∷ [])
-    (stmt 53 (form.CallOf (call (named (codes "f") 53) ((number 55 1) ∷ []))) ∷ stmt 59 (form.CallOf (call (named (codes "f") 59) ((number 61 1) ∷ (truth 64 true) ∷ (number 70 2) ∷ []))) ∷ stmt 74 (form.CallOf (call (named (codes "f") 74) ((truth 76 true) ∷ (number 82 1) ∷ []))) ∷ stmt 86 (form.CallOf (call (named (codes "g") 86) ((var (named (codes "z") 88)) ∷ []))) ∷ [])
+    (function gives.Int (named (codes "f") 15) (param ty.Int (named (codes "n") 21) ∷ param ty.Bool (named (codes "b") 29) ∷ [])
+    (stmt 34 (form.Return (Some (var (named (codes "n") 41)))) ∷ []) ∷ [])
+    (stmt 53 (form.CallOf (call (named (codes "f") 53) ((number 55 1) ∷ []))) ∷ stmt 59
+    (form.CallOf (call (named (codes "f") 59) ((number 61 1) ∷ (truth 64 true) ∷ (number 70 2) ∷ []))) ∷ stmt 74
+    (form.CallOf (call (named (codes "f") 74) ((truth 76 true) ∷ (number 82 1) ∷ []))) ∷ stmt 86
+    (form.CallOf (call (named (codes "g") 86) ((var (named (codes "z") 88)) ∷ []))) ∷ [])
 
 -- arguments that are too few, too many, or not of the parameters' types
 abbrev pub WrongArguments : Type 0
-WrongArguments = fault_list calls ≡ at 53 WrongCount ∷ at 59 WrongCount ∷ at 76 WrongType ∷ at 82 WrongType ∷ at 86 UnknownName ∷ at 88 UnknownName ∷ []
+WrongArguments = fault_list calls ≡ at 53 WrongCount ∷ at 59 WrongCount ∷ at 76 WrongType ∷ at 82 WrongType ∷ at 86 UnknownName ∷ at 88
+    UnknownName ∷ []
 
 -- shared { } int f() { while (true) { return 1; } } int g() { if (true) { return 1; } else if (true) { { return 2; } } else { return 3; } } int h() { if (true) { return 1; } } void v() { return 1; } int k() { return; } bool m() { return 1; } main { return 1; parbegin routine[1](int w, int id) { return w; } parend; return; }
 abbrev pub returns : Program
 returns = program
     []
-    (function gives.Int (named (codes "f") 15) [] (stmt 21 (form.While (truth 28 true) (stmt 36 (form.Return (Some (number 43 1))) ∷ [])) ∷ []) ∷ function gives.Int (named (codes "g") 54) [] (stmt 60 (form.If (arm (truth 64 true) (stmt 72 (form.Return (Some (number 79 1))) ∷ []) ∷ arm (truth 93 true) (stmt 101 (form.Block (stmt 103 (form.Return (Some (number 110 2))) ∷ [])) ∷ []) ∷ []) (Some (stmt 124 (form.Return (Some (number 131 3))) ∷ []))) ∷ []) ∷ function gives.Int (named (codes "h") 142) [] (stmt 148 (form.If (arm (truth 152 true) (stmt 160 (form.Return (Some (number 167 1))) ∷ []) ∷ []) None) ∷ []) ∷ function gives.Nothing (named (codes "v") 179) [] (stmt 185 (form.Return (Some (number 192 1))) ∷ []) ∷ function gives.Int (named (codes "k") 201) [] (stmt 207 (form.Return None) ∷ []) ∷ function gives.Bool (named (codes "m") 222) [] (stmt 228 (form.Return (Some (number 235 1))) ∷ []) ∷ [])
-    (stmt 247 (form.Return (Some (number 254 1))) ∷ stmt 257 (form.Par (routine 266 (number 274 1) (named (codes "w") 281) (named (codes "id") 288) (stmt 294 (form.Return (Some (var (named (codes "w") 301)))) ∷ []) ∷ [])) ∷ stmt 314 (form.Return None) ∷ [])
+    (function gives.Int (named (codes "f") 15) [] (stmt 21 (form.While (truth 28 true) (stmt 36 (form.Return (Some (number 43 1))) ∷ []))
+    ∷ []) ∷ function gives.Int (named (codes "g") 54) [] (stmt 60
+    (form.If (arm (truth 64 true) (stmt 72 (form.Return (Some (number 79 1))) ∷ []) ∷ arm (truth 93 true)
+    (stmt 101 (form.Block (stmt 103 (form.Return (Some (number 110 2))) ∷ [])) ∷ []) ∷ [])
+    (Some (stmt 124 (form.Return (Some (number 131 3))) ∷ []))) ∷ []) ∷ function gives.Int (named (codes "h") 142) []
+    (stmt 148 (form.If (arm (truth 152 true) (stmt 160 (form.Return (Some (number 167 1))) ∷ []) ∷ []) None) ∷ []) ∷ function
+    gives.Nothing (named (codes "v") 179) [] (stmt 185 (form.Return (Some (number 192 1))) ∷ []) ∷ function gives.Int
+    (named (codes "k") 201) [] (stmt 207 (form.Return None) ∷ []) ∷ function gives.Bool (named (codes "m") 222) []
+    (stmt 228 (form.Return (Some (number 235 1))) ∷ []) ∷ [])
+    (stmt 247 (form.Return (Some (number 254 1))) ∷ stmt 257 (form.Par
+    (routine 266 (number 274 1) (named (codes "w") 281) (named (codes "id") 288)
+    (stmt 294 (form.Return (Some (var (named (codes "w") 301)))) ∷ []) ∷ [])) ∷ stmt 314 (form.Return None) ∷ [])
 
 -- bodies that end and that do not, and values that are given back wrongly
 abbrev pub WrongReturns : Type 0
-WrongReturns = fault_list returns ≡ at 15 NoReturn ∷ at 142 NoReturn ∷ at 185 WrongReturn ∷ at 207 WrongReturn ∷ at 235 WrongType ∷ at 247 WrongReturn ∷ at 294 WrongReturn ∷ []
+WrongReturns = fault_list returns ≡ at 15 NoReturn ∷ at 142 NoReturn ∷ at 185 WrongReturn ∷ at 207 WrongReturn ∷ at 235 WrongType ∷ at 247
+    WrongReturn ∷ at 294 WrongReturn ∷ []
 
 -- shared { } main { break; while (true) { if (true) { break; } parbegin routine[1](int w, int id) { continue; } parend; } continue; }
 abbrev pub loops : Program
 loops = program
     []
     []
-    (stmt 18 form.Break ∷ stmt 25 (form.While (truth 32 true) (stmt 40 (form.If (arm (truth 44 true) (stmt 52 form.Break ∷ []) ∷ []) None) ∷ stmt 61 (form.Par (routine 70 (number 78 1) (named (codes "w") 85) (named (codes "id") 92) (stmt 98 form.Continue ∷ []) ∷ [])) ∷ [])) ∷ stmt 120 form.Continue ∷ [])
+    (stmt 18 form.Break ∷ stmt 25 (form.While (truth 32 true) (stmt 40 (form.If (arm (truth 44 true) (stmt 52 form.Break ∷ []) ∷ []) None) ∷
+    stmt 61 (form.Par (routine 70 (number 78 1) (named (codes "w") 85) (named (codes "id") 92) (stmt 98 form.Continue ∷ []) ∷ []))
+    ∷ [])) ∷ stmt 120 form.Continue ∷ [])
 
 -- `break` and `continue` without a loop in the same body
 abbrev pub NotInLoops : Type 0
@@ -268,8 +341,10 @@ NotInLoops = fault_list loops ≡ at 18 NotInLoop ∷ at 98 NotInLoop ∷ at 120
 abbrev pub main_only : Program
 main_only = program
     []
-    (function gives.Nothing (named (codes "f") 16) [] (stmt 22 (form.Print (item.Value (var (named (codes "x") 28)) ∷ [])) ∷ stmt 32 (form.Par (routine 41 (truth 49 true) (named (codes "f") 59) (named (codes "f") 66) (stmt 71 form.Break ∷ []) ∷ [])) ∷ []) ∷ [])
-    (stmt 97 (form.Par (routine 106 (number 114 1) (named (codes "w") 121) (named (codes "id") 128) (stmt 134 (form.Print []) ∷ []) ∷ [])) ∷ [])
+    (function gives.Nothing (named (codes "f") 16) [] (stmt 22 (form.Print (item.Value (var (named (codes "x") 28)) ∷ [])) ∷ stmt 32
+    (form.Par (routine 41 (truth 49 true) (named (codes "f") 59) (named (codes "f") 66) (stmt 71 form.Break ∷ []) ∷ [])) ∷ []) ∷ [])
+    (stmt 97 (form.Par (routine 106 (number 114 1) (named (codes "w") 121) (named (codes "id") 128) (stmt 134 (form.Print []) ∷ []) ∷ []))
+    ∷ [])
 
 -- `print` and `parbegin` in a function or routine; nothing else is counted in such a step
 abbrev pub ShownElsewhere : Type 0
@@ -279,8 +354,15 @@ ShownElsewhere = fault_list main_only ≡ at 22 OnlyInMain ∷ at 28 UnknownName
 abbrev pub tally_added : Program
 tally_added = program
     (tally (named (codes "t") 19) ∷ [])
-    (function gives.Nothing (named (codes "add") 29) [] (stmt 37 (form.AddTo (place (named (codes "t") 37)) (number 42 1)) ∷ []) ∷ function gives.Nothing (named (codes "both") 52) [] (stmt 61 (form.CallOf (call (named (codes "add") 61) [])) ∷ []) ∷ function gives.Int (named (codes "get") 74) [] (stmt 82 (form.Return (Some (var (named (codes "t") 89)))) ∷ []) ∷ function gives.Int (named (codes "far") 98) [] (stmt 106 (form.Return (Some (expr 113 (node.CallOf (call (named (codes "get") 113) []))))) ∷ []) ∷ [])
-    (stmt 129 (form.Set (place (named (codes "t") 129)) (expr 133 (node.Binary Add (var (named (codes "t") 133)) (number 137 1)))) ∷ stmt 140 (form.Par (routine 149 (var (named (codes "t") 157)) (named (codes "w") 164) (named (codes "id") 171) (stmt 177 (form.AddTo (place (named (codes "t") 177)) (number 182 1)) ∷ stmt 185 (form.CallOf (call (named (codes "both") 185) [])) ∷ stmt 193 (form.Set (place (named (codes "t") 193)) (number 197 1)) ∷ stmt 200 (form.AddTo (place (named (codes "t") 200)) (expr 205 (node.CallOf (call (named (codes "far") 205) [])))) ∷ []) ∷ [])) ∷ [])
+    (function gives.Nothing (named (codes "add") 29) [] (stmt 37 (form.AddTo (place (named (codes "t") 37)) (number 42 1)) ∷ []) ∷ function
+    gives.Nothing (named (codes "both") 52) [] (stmt 61 (form.CallOf (call (named (codes "add") 61) [])) ∷ []) ∷ function gives.Int
+    (named (codes "get") 74) [] (stmt 82 (form.Return (Some (var (named (codes "t") 89)))) ∷ []) ∷ function gives.Int
+    (named (codes "far") 98) [] (stmt 106 (form.Return (Some (expr 113 (node.CallOf (call (named (codes "get") 113) []))))) ∷ []) ∷ [])
+    (stmt 129 (form.Set (place (named (codes "t") 129)) (expr 133 (node.Binary Add (var (named (codes "t") 133)) (number 137 1)))) ∷ stmt
+    140 (form.Par (routine 149 (var (named (codes "t") 157)) (named (codes "w") 164) (named (codes "id") 171)
+    (stmt 177 (form.AddTo (place (named (codes "t") 177)) (number 182 1)) ∷ stmt 185 (form.CallOf (call (named (codes "both") 185) []))
+    ∷ stmt 193 (form.Set (place (named (codes "t") 193)) (number 197 1)) ∷ stmt 200
+    (form.AddTo (place (named (codes "t") 200)) (expr 205 (node.CallOf (call (named (codes "far") 205) [])))) ∷ []) ∷ [])) ∷ [])
 
 -- a routine may add to a tally word, itself and by calls; one who reads it through two calls is found
 abbrev pub TallyThroughCalls : Type 0
@@ -289,7 +371,9 @@ TallyThroughCalls = fault_list tally_added ≡ at 193 TallyUsed ∷ at 205 Tally
 -- shared { int a[0]; int b[262145]; int c[2] = {1, 2, 3, 4}; int d[262142]; int e; int f; } main { }
 abbrev pub sizes : Program
 sizes = program
-    (array (named (codes "a") 13) 15 0 [] ∷ array (named (codes "b") 23) 25 262145 [] ∷ array (named (codes "c") 38) 40 2 (valued 46 1 ∷ valued 49 2 ∷ valued 52 3 ∷ valued 55 4 ∷ []) ∷ array (named (codes "d") 63) 65 262142 [] ∷ scalar (named (codes "e") 78) ∷ scalar (named (codes "f") 85) ∷ [])
+    (array (named (codes "a") 13) 15 0 [] ∷ array (named (codes "b") 23) 25 262145 [] ∷ array (named (codes "c") 38) 40 2
+    (valued 46 1 ∷ valued 49 2 ∷ valued 52 3 ∷ valued 55 4 ∷ []) ∷ array (named (codes "d") 63) 65 262142 [] ∷ scalar
+    (named (codes "e") 78) ∷ scalar (named (codes "f") 85) ∷ [])
     []
     []
 
@@ -301,7 +385,11 @@ WrongSizes = fault_list sizes ≡ at 15 Limit ∷ at 25 Limit ∷ at 52 Limit �
 abbrev pub params : Program
 params = program
     []
-    (function gives.Nothing (named (codes "f") 16) (param ty.Int (named (codes "a") 22) ∷ param ty.Int (named (codes "b") 29) ∷ param ty.Int (named (codes "f") 36) ∷ param ty.Int (named (codes "a") 43) ∷ param ty.Int (named (codes "e") 50) ∷ param ty.Int (named (codes "g") 57) ∷ param ty.Int (named (codes "h") 64) ∷ param ty.Int (named (codes "i") 71) ∷ param ty.Int (named (codes "j") 78) ∷ param ty.Int (named (codes "k") 85) ∷ []) (stmt 90 (form.Declare ty.Int (named (codes "e") 94) (number 98 1)) ∷ []) ∷ [])
+    (function gives.Nothing (named (codes "f") 16) (param ty.Int (named (codes "a") 22) ∷ param ty.Int (named (codes "b") 29) ∷ param ty.Int
+    (named (codes "f") 36) ∷ param ty.Int (named (codes "a") 43) ∷ param ty.Int (named (codes "e") 50) ∷ param ty.Int
+    (named (codes "g") 57) ∷ param ty.Int (named (codes "h") 64) ∷ param ty.Int (named (codes "i") 71) ∷ param ty.Int
+    (named (codes "j") 78) ∷ param ty.Int (named (codes "k") 85) ∷ [])
+    (stmt 90 (form.Declare ty.Int (named (codes "e") 94) (number 98 1)) ∷ []) ∷ [])
     []
 
 -- the ninth parameter, and names of parameters that are visible already
@@ -313,7 +401,8 @@ abbrev pub same_place : Program
 same_place = program
     (tally (named (codes "t") 19) ∷ [])
     []
-    (stmt 31 (form.Par (routine 40 (number 48 1) (named (codes "w") 55) (named (codes "id") 62) (stmt 68 (form.Declare ty.Bool (named (codes "b") 73) (var (named (codes "t") 77))) ∷ []) ∷ [])) ∷ [])
+    (stmt 31 (form.Par (routine 40 (number 48 1) (named (codes "w") 55) (named (codes "id") 62)
+    (stmt 68 (form.Declare ty.Bool (named (codes "b") 73) (var (named (codes "t") 77))) ∷ []) ∷ [])) ∷ [])
 
 -- at one place the fault with the lower number comes first
 abbrev pub SamePlace : Type 0
@@ -357,7 +446,9 @@ abbrev pub void_value : Program
 void_value = program
     []
     (function gives.Nothing (named (codes "f") 16) [] [] ∷ [])
-    (stmt 31 (form.Declare ty.Bool (named (codes "b") 36) (expr 40 (node.Binary Eq (expr 40 (node.CallOf (call (named (codes "f") 40) []))) (number 47 1)))) ∷ stmt 50 (form.AddTo (place (named (codes "b") 50)) (var (named (codes "c") 55))) ∷ [])
+    (stmt 31 (form.Declare ty.Bool (named (codes "b") 36) (expr 40
+    (node.Binary Eq (expr 40 (node.CallOf (call (named (codes "f") 40) []))) (number 47 1)))) ∷ stmt 50
+    (form.AddTo (place (named (codes "b") 50)) (var (named (codes "c") 55))) ∷ [])
 
 -- a part that is nothing, and its neighbour; a name of type bool, and a bad value behind it
 abbrev pub NothingAndBool : Type 0
@@ -395,7 +486,8 @@ ManyRoutineLocals = fault_list (one_routine (replicate 62 (inner 0) ++ inner 100
 
 -- the 65th item of a `print`
 abbrev pub ManyItems : Type 0
-ManyItems = fault_list (program [] [] (stmt 0 (form.Print (replicate 64 (item.Value (number 0 1)) ++ item.Value (number 100 1) ∷ [])) ∷ [])) ≡ at 100 Limit ∷ []
+ManyItems = fault_list (program [] [] (stmt 0 (form.Print (replicate 64 (item.Value (number 0 1)) ++ item.Value (number 100 1) ∷ [])) ∷ []))
+    ≡ at 100 Limit ∷ []
 
 -- routine[1](int w, int id) { }
 abbrev idle : ℕ → RoutineBlock

@@ -115,7 +115,8 @@ fn check_return(
     at: u32,
     value: &Option<Expr>,
 )
-    ensures { found.new ≡ noted found.old (statements.return_faults body (globals.now ++ locals.now) at (statements.result_of body) value.now) }
+    ensures { found.new ≡ noted found.old (statements.return_faults body (globals.now ++ locals.now) at (statements.result_of body)
+        value.now) }
 {
     match (result_of(body), value) {
         (Gives::Nothing, None) => {}
@@ -194,7 +195,8 @@ fn check_stmt(
     locals: &mut Table,
     s: &Stmt,
 ) -> Result<(), NoMemory>
-    ensures found { OnOk result (found.new ≡ noted found.old (statements.faults globals.now here (globals.now ++ locals.old) s.now.at s.now.form)) }
+    ensures found { OnOk result (found.new ≡ noted found.old (statements.faults globals.now here (globals.now ++ locals.old) s.now.at
+        s.now.form)) }
     ensures names { OnOk result (globals.now ++ locals.new ≡ after (globals.now ++ locals.old) s.now.form) }
 {
     let body = here.body;
@@ -280,7 +282,8 @@ fn check_alone(
     locals: &mut Table,
     s: &Stmt,
 ) -> Result<(), NoMemory>
-    ensures found { OnOk result (found.new ≡ noted found.old (statements.faults globals.now here (globals.now ++ locals.old) s.now.at s.now.form)) }
+    ensures found { OnOk result (found.new ≡ noted found.old (statements.faults globals.now here (globals.now ++ locals.old) s.now.at
+        s.now.form)) }
     ensures names { OnOk result (locals.new ≡ locals.old) }
 {
     let outer = locals.len();

@@ -188,7 +188,8 @@ module _ {step : ℕ} {image : Paged} {m : Module} where
       (record { who = refl; row = refl; follows = follows; holds = tt; size = refl; may = record { kinds = may.kinds; room = may.room; fits = may.fits }; goes_on = λ going. going })
 
   -- a worker that stopped
-  pub left_stopped : (w w' : WorkerState) → w' ≡ record w { tally = counted_as w.tally None } → IsTallyOf w'.row w'.tally → IfSome w.holds (λ s. s ≤ step) → MayWork w image m → w.tally.stopped ≡ false → IsLeft step image m w w'
+  pub left_stopped : (w w' : WorkerState) → w' ≡ record w { tally = counted_as w.tally None } → IsTallyOf w'.row w'.tally → IfSome w.holds (λ s. s ≤ step) → MayWork w image m → w.tally.stopped ≡ false
+      → IsLeft step image m w w'
   left_stopped w w' is follows holds may going = record {
     who = ap (λ (x : WorkerState). x.tally.who) is;
     row = ap (λ (x : WorkerState). x.row) is;

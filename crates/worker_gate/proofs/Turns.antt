@@ -38,13 +38,15 @@ module _ (job : StepJob) (before later : History) (k : ℕ) (is : later ≡ befo
   claims_one : claims_by is_caller later ≡ claims_by is_caller before + 1
   claims_one =
       let a : claims_by is_caller with_claim ≡ claims_by is_caller before + 1 = count_by-push (is_claim is_caller anyone) before (Claim CALLER k) in
-      let b : claims_by is_caller (with_claim ++ Arrive CALLER job.number k First ∷ []) ≡ claims_by is_caller with_claim + 0 = count_by-push (is_claim is_caller anyone) with_claim (Arrive CALLER job.number k First) in
+      let b : claims_by is_caller (with_claim ++ Arrive CALLER job.number k First ∷ []) ≡ claims_by is_caller with_claim + 0 = count_by-push (is_claim is_caller anyone) with_claim
+      (Arrive CALLER job.number k First) in
       omega (arith, ap (λ h. claims_by is_caller h) split, a, b)
 
   arrivals_one : arrivals_by is_caller later ≡ arrivals_by is_caller before + 1
   arrivals_one =
       let a : arrivals_by is_caller with_claim ≡ arrivals_by is_caller before + 0 = count_by-push (is_arrival is_caller) before (Claim CALLER k) in
-      let b : arrivals_by is_caller (with_claim ++ Arrive CALLER job.number k First ∷ []) ≡ arrivals_by is_caller with_claim + 1 = count_by-push (is_arrival is_caller) with_claim (Arrive CALLER job.number k First) in
+      let b : arrivals_by is_caller (with_claim ++ Arrive CALLER job.number k First ∷ []) ≡ arrivals_by is_caller with_claim + 1 = count_by-push (is_arrival is_caller) with_claim
+      (Arrive CALLER job.number k First) in
       omega (arith, ap (λ h. arrivals_by is_caller h) split, a, b)
 
 -- after a turn
@@ -53,7 +55,8 @@ pub record Turned (job : StepJob) (before later whole : History) (n i : ℕ) : T
   pub claims : claims_by is_caller later ≡ claims_by is_caller before + 1
   pub arrivals : arrivals_by is_caller later ≡ arrivals_by is_caller before + 1
 
-pub turned : (job : StepJob) (before later whole : History) (more : Bool) (n i : ℕ) → more ≡ true → TookTurn job before more later → i < n → with_pairs (n - i) job before ≡ whole → Turned job before later whole n i
+pub turned : (job : StepJob) (before later whole : History) (more : Bool) (n i : ℕ) → more ≡ true → TookTurn job before more later → i < n → with_pairs (n - i) job before ≡ whole
+    → Turned job before later whole n i
 turned job before later whole more n i on took lt left =
     let t : TookTurn job before true later = subst (λ (b : Bool). TookTurn job before b later) on took in
     let one : n - i ≡ suc (n - (i + 1)) = omega arith in
@@ -68,7 +71,8 @@ turned job before later whole more n i on took lt left =
     }
 
 -- where nothing was wanted any more
-pub ended : (job : StepJob) (before later whole : History) (more : Bool) (n i : ℕ) → more ≡ false → TookTurn job before more later → i < n → with_pairs (n - i) job before ≡ whole → (later ≡ before) × (later ≡ whole)
+pub ended : (job : StepJob) (before later whole : History) (more : Bool) (n i : ℕ) → more ≡ false → TookTurn job before more later → i < n → with_pairs (n - i) job before ≡ whole
+    → (later ≡ before) × (later ≡ whole)
 ended job before later whole more n i off took lt left =
     let t : TookTurn job before false later = subst (λ (b : Bool). TookTurn job before b later) off took in
     let one : n - i ≡ suc (n - (i + 1)) = omega arith in

@@ -12,7 +12,8 @@ use Rattle.worker_gate.specs.Working.{WorkerState, MayWork}
 -- claims and arrivals rose by what the tally says since: a claim for each claim, and an arrival for each execution, one more for a repeated one, none for a lost or held one
 pub record Counts (before after : WorkerTally) (shares shares' : Amounts) : Type 0 where
   pub claims : shares'.claims + before.claims ≡ shares.claims + after.claims
-  pub arrivals : shares'.arrivals + (after.lost + after.held) + (before.executed + before.repeated) ≡ shares.arrivals + (after.executed + after.repeated) + (before.lost + before.held)
+  pub arrivals : shares'.arrivals + (after.lost + after.held) + (before.executed + before.repeated) ≡ shares.arrivals +
+      (after.executed + after.repeated) + (before.lost + before.held)
   pub few : shares'.arrivals + 2 * before.claims ≤ shares.arrivals + 2 * after.claims
   pub parts : shares'.parts ≡ shares.parts
 
@@ -49,8 +50,10 @@ total count workers = sum_by (λ worker. count worker.tally) workers
 pub record Worked (step : ℕ) (image : Paged) (m : Module) (before after : List WorkerState) (shares shares' : Amounts) : Type 0 where
   pub claims : shares'.claims + total (λ t. t.claims) before ≡ shares.claims + total (λ t. t.claims) after
   pub arrivals :
-      shares'.arrivals + (total (λ t. t.lost) after + total (λ t. t.held) after) + (total (λ t. t.executed) before + total (λ t. t.repeated) before)
-      ≡ shares.arrivals + (total (λ t. t.executed) after + total (λ t. t.repeated) after) + (total (λ t. t.lost) before + total (λ t. t.held) before)
+      shares'.arrivals + (total (λ t. t.lost) after + total (λ t. t.held) after) +
+      (total (λ t. t.executed) before + total (λ t. t.repeated) before)
+      ≡ shares.arrivals + (total (λ t. t.executed) after + total (λ t. t.repeated) after) +
+      (total (λ t. t.lost) before + total (λ t. t.held) before)
   pub few : shares'.arrivals + 2 * total (λ t. t.claims) before ≤ shares.arrivals + 2 * total (λ t. t.claims) after
   pub held : shares'.held ≡ shares.held + sum_by late before
   pub ends : shares'.ends ≡ shares.ends + sum_by ends after

@@ -93,7 +93,8 @@ fn work_one<
 ) -> One<'a, 'i, 'j, N, C, A, H, E>
     requires { IsReady N.job.number one.job.now.image.now one.job.now.code.now one.worker.now }
     ensures same { result.worker.ghost_name ≡ one.entry.worker.ghost_name }
-    ensures work { Worked N.job.number one.entry.job.now.image.now one.entry.job.now.code.now (one.entry.worker.now ∷ []) (result.worker.now ∷ []) one.entry.shares result.shares }
+    ensures work { Worked N.job.number one.entry.job.now.image.now one.entry.job.now.code.now (one.entry.worker.now ∷ [])
+        (result.worker.now ∷ []) one.entry.shares result.shares }
 {
     let One {
         worker,
@@ -131,8 +132,10 @@ fn work_others<
     requires ready { All (IsReady N.job.number others.job.now.image.now others.job.now.code.now) others.workers.now.items }
     requires parts { vec_len others.workers.now ≤ others.shares.parts }
     ensures same { result.workers.ghost_name ≡ others.entry.workers.ghost_name }
-    ensures work { Worked N.job.number others.entry.job.now.image.now others.entry.job.now.code.now others.entry.workers.now.items result.workers.now.items others.entry.shares result.shares }
-    ensures room { (vec_capacity result.workers.now ≡ vec_capacity others.entry.workers.now) × (vec_len result.workers.now ≡ vec_len others.entry.workers.now) }
+    ensures work { Worked N.job.number others.entry.job.now.image.now others.entry.job.now.code.now others.entry.workers.now.items
+        result.workers.now.items others.entry.shares result.shares }
+    ensures room { (vec_capacity result.workers.now ≡ vec_capacity others.entry.workers.now)
+        × (vec_len result.workers.now ≡ vec_len others.entry.workers.now) }
 {
     let Others {
         workers,
@@ -186,7 +189,8 @@ fn work_both<
         move |one: One<N, C, A, H, E>| -> One<N, C, A, H, E>
             requires ready { IsReady N.job.number one.job.now.image.now one.job.now.code.now one.worker.now }
             ensures same { result.worker.ghost_name ≡ one.entry.worker.ghost_name }
-            ensures work { Worked N.job.number one.entry.job.now.image.now one.entry.job.now.code.now (one.entry.worker.now ∷ []) (result.worker.now ∷ []) one.entry.shares result.shares }
+            ensures work { Worked N.job.number one.entry.job.now.image.now one.entry.job.now.code.now (one.entry.worker.now ∷ [])
+                (result.worker.now ∷ []) one.entry.shares result.shares }
         { work_one(rt, one, board, gate) },
         Others {
             workers,
@@ -200,8 +204,10 @@ fn work_both<
             requires ready { All (IsReady N.job.number others.job.now.image.now others.job.now.code.now) others.workers.now.items }
             requires parts { vec_len others.workers.now ≤ others.shares.parts }
             ensures same { result.workers.ghost_name ≡ others.entry.workers.ghost_name }
-            ensures work { Worked N.job.number others.entry.job.now.image.now others.entry.job.now.code.now others.entry.workers.now.items result.workers.now.items others.entry.shares result.shares }
-            ensures room { (vec_capacity result.workers.now ≡ vec_capacity others.entry.workers.now) × (vec_len result.workers.now ≡ vec_len others.entry.workers.now) }
+            ensures work { Worked N.job.number others.entry.job.now.image.now others.entry.job.now.code.now others.entry.workers.now.items
+                result.workers.now.items others.entry.shares result.shares }
+            ensures room { (vec_capacity result.workers.now ≡ vec_capacity others.entry.workers.now)
+                × (vec_len result.workers.now ≡ vec_len others.entry.workers.now) }
         {
             prove!(others.workers.len() <= most);
             work_others(rt, others, board, gate)

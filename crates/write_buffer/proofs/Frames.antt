@@ -75,7 +75,8 @@ freed [] f = refl
 freed (o ∷ pool) zero = refl
 freed (o ∷ pool) (suc f) = freed pool f
 
-pub gives_more : (all frames fewer : List ℕ) (first pool later : Pool) (f : ℕ) → IsGiving all frames first pool → frames ≡ fewer ++ f ∷ [] → AreApart all → later ≡ set pool f None → free_count later ≡ free_count pool + 1 → IsGiving all fewer first later
+pub gives_more : (all frames fewer : List ℕ) (first pool later : Pool) (f : ℕ) → IsGiving all frames first pool → frames ≡ fewer ++ f ∷ [] → AreApart all → later ≡ set pool f None
+    → free_count later ≡ free_count pool + 1 → IsGiving all fewer first later
 gives_more all frames fewer first pool later f is popped apart given counted =
     let n : ℕ = length fewer in
     let size : length frames ≡ n + 1 = ap (λ (l : List ℕ). length l) popped ∙ length-append fewer (f ∷ []) in

@@ -1,5 +1,6 @@
 -- Bits of a list of masks.
-use Rattle.std.proofs.Common.{◌≡◌, ◌≢◌, ℕ, zero, suc, ◌+◌, ◌-◌, ◌*◌, ◌/◌, ◌%◌, ◌^◌, ◌<◌, ◌≤◌, true, false, List, [], ◌∷◌, length, set, Some, None, refl, sym, ap, ◌∙◌, arith, ⊎_elim, bit_and, bit_or, nat_eq, w64, shr-shr}
+use Rattle.std.proofs.Common.{◌≡◌, ◌≢◌, ℕ, zero, suc, ◌+◌, ◌-◌, ◌*◌, ◌/◌, ◌%◌, ◌^◌, ◌<◌, ◌≤◌, true, false, List, [], ◌∷◌, length, set, Some, None, refl, sym, ap, ◌∙◌, arith, ⊎_elim, bit_and, bit_or}
+use Rattle.std.proofs.Common.{nat_eq, w64, shr-shr}
 use Rattle.std.specs.Int.{bit_at}
 use Rattle.std.specs.Int.Count.{count_trailing_zeros}
 use Rattle.std.proofs.lemmas.Bool.{cases_eq, cases_lt}
@@ -68,7 +69,8 @@ none_more masks from p none empty a later before =
     (λ (high : 64 * p ≤ a). unmarked_at masks p (a - 64 * p) a (omega arith) (omega arith) (ap (λ m. bit_at m (a - 64 * p)) empty ∙ bit_at-zero (a - 64 * p)))
     (cases_lt a (64 * p))
 
-pub next_later : (masks : List ℕ) (from p bit : ℕ) → ((a : ℕ) → from ≤ a → a < 64 * p → is_marked masks a ≡ false) → from ≤ 64 * p → IsLowest (mask_of masks p) bit → IsNextMarked masks from (Some (64 * p + bit))
+pub next_later : (masks : List ℕ) (from p bit : ℕ) → ((a : ℕ) → from ≤ a → a < 64 * p → is_marked masks a ≡ false) → from ≤ 64 * p → IsLowest (mask_of masks p) bit
+    → IsNextMarked masks from (Some (64 * p + bit))
 next_later masks from p bit none below is = (
   omega arith,
   marked_at masks p bit _ refl is.within is.set,

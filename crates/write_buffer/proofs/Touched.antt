@@ -1,5 +1,6 @@
 -- The pages that were touched.
-use Rattle.std.proofs.Common.{◌≡◌, ◌≢◌, ℕ, zero, suc, ◌+◌, ◌*◌, ◌/◌, ◌<◌, ◌≤◌, Bool, true, false, ◌||◌, nat_lt, List, [], ◌∷◌, ◌++◌, length, replicate, get_or, set, Some, None, refl, sym, ap, ◌∙◌, subst, arith, ⊎_elim}
+use Rattle.std.proofs.Common.{◌≡◌, ◌≢◌, ℕ, zero, suc, ◌+◌, ◌*◌, ◌/◌, ◌<◌, ◌≤◌, Bool, true, false, ◌||◌, nat_lt, List, [], ◌∷◌, ◌++◌, length, replicate, get_or, set, Some, None, refl, sym, ap, ◌∙◌}
+use Rattle.std.proofs.Common.{subst, arith, ⊎_elim}
 use Rattle.std.proofs.lemmas.Bool.{cases_eq, cases_lt, eq-eqb, ne_eqb, lt-ltb, ltb-true, ltb-false}
 use Rattle.std.proofs.lemmas.List.{get_or-set_same, get_or-set_other, length-set, length-append, length-replicate, get_or_append_left, get_or_at, get_or_default, ext_get_or}
 use Rattle.write_buffer.specs.Bits.{mask_of, is_marked, with_mark, IsLowest, IsNextMarked}
@@ -110,7 +111,8 @@ unfolding with_mark
 count_marked_more masks a there none = count_more masks (a / 64) _ there none (λ zero_now. mask_some masks a there (get_or-set_same masks (a / 64) _ 0 there ∙ zero_now))
 
 -- a word of a page that was touched before
-pub marks_again : (masks pages touched : List ℕ) (capacity a : ℕ) → IsMarks masks pages touched capacity → a / 64 < length masks → mask_of masks (a / 64) ≢ 0 → IsMarks (with_mark masks a) pages touched capacity
+pub marks_again : (masks pages touched : List ℕ) (capacity a : ℕ) → IsMarks masks pages touched capacity → a / 64 < length masks → mask_of masks (a / 64) ≢ 0
+    → IsMarks (with_mark masks a) pages touched capacity
 marks_again masks pages touched capacity a is there some =
     let size = length-with_mark masks a in
     let now = mask_some masks a there in
@@ -137,7 +139,8 @@ marks_again masks pages touched capacity a is there some =
     }
 
 -- the first word of a page
-pub marks_first : (masks pages touched : List ℕ) (capacity a : ℕ) → IsMarks masks pages touched capacity → a / 64 < length masks → mask_of masks (a / 64) ≡ 0 → IsMarks (with_mark masks a) (with_mark pages (a / 64)) (touched ++ a / 64 ∷ []) capacity
+pub marks_first : (masks pages touched : List ℕ) (capacity a : ℕ) → IsMarks masks pages touched capacity → a / 64 < length masks → mask_of masks (a / 64) ≡ 0
+    → IsMarks (with_mark masks a) (with_mark pages (a / 64)) (touched ++ a / 64 ∷ []) capacity
 marks_first masks pages touched capacity a is there none =
     let size = length-with_mark masks a in
     let words = length-with_mark pages (a / 64) in
@@ -175,7 +178,8 @@ marks_room masks pages touched capacity p is there none = omega (arith, is.count
 
 -- ---- the next marked word
 
-none_between : (masks pages touched : List ℕ) (capacity from p q : ℕ) → IsMarks masks pages touched capacity → ((a : ℕ) → from ≤ a → a < 64 * p → is_marked masks a ≡ false) → ((b : ℕ) → p ≤ b → b < q → is_marked pages b ≡ false)
+none_between : (masks pages touched : List ℕ) (capacity from p q : ℕ) → IsMarks masks pages touched capacity → ((a : ℕ) → from ≤ a → a < 64 * p → is_marked masks a ≡ false)
+    → ((b : ℕ) → p ≤ b → b < q → is_marked pages b ≡ false)
     → (a : ℕ) → from ≤ a → a < 64 * q → is_marked masks a ≡ false
 none_between masks pages touched capacity from p q is before none a later low =
     ⊎_elim
@@ -183,11 +187,13 @@ none_between masks pages touched capacity from p q is before none a later low =
     (λ (far : 64 * p ≤ a). unmarked_page masks a (none_above (mask_of masks (a / 64)) (sym (is.told (a / 64)) ∙ none (a / 64) (omega arith) (omega arith))))
     (cases_lt a (64 * p))
 
-pub next_page : (masks pages touched : List ℕ) (capacity from p q bit : ℕ) → IsMarks masks pages touched capacity → from ≤ 64 * p → ((a : ℕ) → from ≤ a → a < 64 * p → is_marked masks a ≡ false) → IsNextMarked pages p (Some q) → IsLowest (mask_of masks q) bit → IsNextMarked masks from (Some (64 * q + bit))
+pub next_page : (masks pages touched : List ℕ) (capacity from p q bit : ℕ) → IsMarks masks pages touched capacity → from ≤ 64 * p → ((a : ℕ) → from ≤ a → a < 64 * p → is_marked masks a ≡ false)
+    → IsNextMarked pages p (Some q) → IsLowest (mask_of masks q) bit → IsNextMarked masks from (Some (64 * q + bit))
 next_page masks pages touched capacity from p q bit is below before next low =
     next_later masks from q bit (none_between masks pages touched capacity from p q is before next.2) (omega (arith, next.0)) low
 
-pub next_none : (masks pages touched : List ℕ) (capacity from p : ℕ) → IsMarks masks pages touched capacity → ((a : ℕ) → from ≤ a → a < 64 * p → is_marked masks a ≡ false) → IsNextMarked pages p None → IsNextMarked masks from None
+pub next_none : (masks pages touched : List ℕ) (capacity from p : ℕ) → IsMarks masks pages touched capacity → ((a : ℕ) → from ≤ a → a < 64 * p → is_marked masks a ≡ false) → IsNextMarked pages p None
+    → IsNextMarked masks from None
 next_none masks pages touched capacity from p is before none a later =
     none_between masks pages touched capacity from p (a / 64 + 1) is before (λ b high low. none b high) a later (omega arith)
 
@@ -212,7 +218,8 @@ clearing_begins masks pages touched capacity is = record {
   small = is.small;
 }
 
-pub clearing_more : (n words : ℕ) (masks pages touched rest : List ℕ) (p : ℕ) → IsClearing n words masks pages touched → touched ≡ rest ++ p ∷ [] → IsClearing n words (set masks p 0) (set pages (p / 64) 0) rest
+pub clearing_more : (n words : ℕ) (masks pages touched rest : List ℕ) (p : ℕ) → IsClearing n words masks pages touched → touched ≡ rest ++ p ∷ []
+    → IsClearing n words (set masks p 0) (set pages (p / 64) 0) rest
 clearing_more n words masks pages touched rest p is popped =
     let longer : length touched ≡ length rest + 1 = ap (λ (l : List ℕ). length l) popped ∙ length-append rest (p ∷ []) in
     let last : get_or touched (length rest) 0 ≡ p = ap (λ (l : List ℕ). get_or l (length rest) 0) popped ∙ get_or_at rest p [] 0 (length rest) refl in
@@ -261,7 +268,8 @@ cleared_pages n words masks pages touched is none p =
     bool_cases (is_marked pages p) (λ marked. let listed : IsListedIn [] p = subst (λ (l : List ℕ). IsListedIn l p) none (is.told p marked) in cc)
 
 -- after clearing no word is marked
-pub marks_cleared : (masks pages touched cleared : List ℕ) (capacity : ℕ) → IsMarks masks pages touched capacity → length cleared ≡ length pages → ((p : ℕ) → is_marked cleared p ≡ false) → IsMarks (replicate (length masks) 0) cleared [] capacity
+pub marks_cleared : (masks pages touched cleared : List ℕ) (capacity : ℕ) → IsMarks masks pages touched capacity → length cleared ≡ length pages → ((p : ℕ) → is_marked cleared p ≡ false)
+    → IsMarks (replicate (length masks) 0) cleared [] capacity
 marks_cleared masks pages touched cleared capacity is same none =
     let size = length-replicate {A = ℕ} (length masks) 0 in
     record {

@@ -22,7 +22,8 @@ pub next_is_none : (pool : Pool) (buffer now : Buffered) (from : ℕ) → buffer
 next_is_none pool buffer now from view none a later =
     get_written pool now a ∙ entry_none pool now a (ap (λ (b : Buffered). is_marked b.masks a) (sym view) ∙ none a later)
 
-pub next_is_some : (pool : Pool) (buffer now : Buffered) (from a : ℕ) (v : ℤ) → buffer ≡ now → IsNextMarked buffer.masks from (Some a) → v ≡ word_in pool (frame_of now.frames (a / 64)) (a % 64) → IsNextFrom (written_of pool now) from (Some (a, v))
+pub next_is_some : (pool : Pool) (buffer now : Buffered) (from a : ℕ) (v : ℤ) → buffer ≡ now → IsNextMarked buffer.masks from (Some a) → v ≡ word_in pool (frame_of now.frames (a / 64)) (a % 64)
+    → IsNextFrom (written_of pool now) from (Some (a, v))
 next_is_some pool buffer now from a v view next value = (
   next.0,
   get_written pool now a ∙ entry_some pool now a (ap (λ (b : Buffered). is_marked b.masks a) (sym view) ∙ next.1) ∙ ap (λ x. Some x) (sym value),
@@ -37,17 +38,20 @@ next_in_page buffer now from a view same next =
 -- ---- a page is read
 
 -- a frame of the buffer is none that the cache keeps afterwards
-foreign_stays : (pool later : Pool) (cache after : Cached) (buffer : Buffered) (source : Paged) → Joined pool cache buffer source → KeepsFrames pool later cache.kept after.kept → (p : ℕ) → p < length buffer.frames → IsNewFrame after.kept (frame_of buffer.frames p)
+foreign_stays : (pool later : Pool) (cache after : Cached) (buffer : Buffered) (source : Paged) → Joined pool cache buffer source → KeepsFrames pool later cache.kept after.kept → (p : ℕ)
+    → p < length buffer.frames → IsNewFrame after.kept (frame_of buffer.frames p)
 foreign_stays pool later cache after buffer source joined keeps p there i low same =
     ⊎_elim
     (λ (early : i < length cache.kept). joined.apart p there i early (sym (keeps.same i early) ∙ same))
     (λ (late : length cache.kept ≤ i). free_not_out pool (frame_at after.kept i) (frame_of buffer.frames p) (keeps.taken i late low) (joined.own p there) same)
     (cases_lt i (length cache.kept))
 
-frame_stays : (pool later : Pool) (cache after : Cached) (buffer : Buffered) (source : Paged) → Joined pool cache buffer source → KeepsFrames pool later cache.kept after.kept → (p : ℕ) → p < length buffer.frames → words_in later (frame_of buffer.frames p) ≡ words_in pool (frame_of buffer.frames p)
+frame_stays : (pool later : Pool) (cache after : Cached) (buffer : Buffered) (source : Paged) → Joined pool cache buffer source → KeepsFrames pool later cache.kept after.kept → (p : ℕ)
+    → p < length buffer.frames → words_in later (frame_of buffer.frames p) ≡ words_in pool (frame_of buffer.frames p)
 frame_stays pool later cache after buffer source joined keeps p there = keeps.others (frame_of buffer.frames p) (foreign_stays pool later cache after buffer source joined keeps p there)
 
-pub written_stays : (pool later : Pool) (cache after : Cached) (buffer : Buffered) (source : Paged) → Joined pool cache buffer source → KeepsFrames pool later cache.kept after.kept → length buffer.masks ≡ length buffer.frames → written_of later buffer ≡ written_of pool buffer
+pub written_stays : (pool later : Pool) (cache after : Cached) (buffer : Buffered) (source : Paged) → Joined pool cache buffer source → KeepsFrames pool later cache.kept after.kept
+    → length buffer.masks ≡ length buffer.frames → written_of later buffer ≡ written_of pool buffer
 written_stays pool later cache after buffer source joined keeps same =
     same_written pool later buffer buffer (λ a.
     ⊎_elim
@@ -59,7 +63,8 @@ written_stays pool later cache after buffer source joined keeps same =
     (λ (none : is_marked buffer.masks a ≡ false). entry_none later buffer a none ∙ sym (entry_none pool buffer a none))
     (bool_is (is_marked buffer.masks a)))
 
-pub view_stays : (pool later : Pool) (cache after : Cached) (buffer : Buffered) (p : ℕ) (version : Option ℕ) → KeepsFrames pool later cache.kept after.kept → Serves cache after p version → KeepsView pool later cache after buffer buffer
+pub view_stays : (pool later : Pool) (cache after : Cached) (buffer : Buffered) (p : ℕ) (version : Option ℕ) → KeepsFrames pool later cache.kept after.kept → Serves cache after p version
+    → KeepsView pool later cache after buffer buffer
 view_stays pool later cache after buffer p version keeps serves = record {
   size = serves.size;
   kinds = refl;
@@ -70,7 +75,8 @@ view_stays pool later cache after buffer p version keeps serves = record {
   others = λ f new foreign. keeps.others f new;
 }
 
-pub joined_stays : (pool later : Pool) (cache after : Cached) (buffer : Buffered) (source : Paged) → Joined pool cache buffer source → KeepsFrames pool later cache.kept after.kept → Fits later after.kept source → IsBacked later after.size after.kept → Joined later after buffer source
+pub joined_stays : (pool later : Pool) (cache after : Cached) (buffer : Buffered) (source : Paged) → Joined pool cache buffer source → KeepsFrames pool later cache.kept after.kept
+    → Fits later after.kept source → IsBacked later after.size after.kept → Joined later after buffer source
 joined_stays pool later cache after buffer source joined keeps fits backed = record {
   fits = fits;
   backed = backed;

@@ -1,5 +1,6 @@
 -- The map that a buffer stands for.
-use Rattle.std.proofs.Common.{◌≡◌, ◌≢◌, ℕ, ◌*◌, ◌/◌, ◌%◌, ◌<◌, ◌≤◌, ℤ, pos, Bool, true, false, List, length, replicate, map, get_or, set, Option, Some, None, refl, sym, ap, ◌∙◌, subst, arith, ⊎_elim, ◌⊎◌, inl, inr, is_some}
+use Rattle.std.proofs.Common.{◌≡◌, ◌≢◌, ℕ, ◌*◌, ◌/◌, ◌%◌, ◌<◌, ◌≤◌, ℤ, pos, Bool, true, false, List, length, replicate, map, get_or, set, Option, Some, None, refl, sym, ap, ◌∙◌, subst, arith, ⊎_elim}
+use Rattle.std.proofs.Common.{◌⊎◌, inl, inr, is_some}
 use Rattle.std.specs.List.{range_with_len}
 use Rattle.std.specs.Option.{option_map_or}
 use Rattle.std.specs.FinMap.{get, insert, empty, get-empty, same_map, nat_cmp-IsAntisymmetric}
@@ -48,7 +49,8 @@ written_none pool buffer n none =
     same_map nat_cmp_total nat_cmp-IsAntisymmetric _ _
     (λ a. get_written pool buffer a ∙ entry_none pool buffer a (ap (λ (l : List ℕ). is_marked l a) none ∙ unmarked_all n a) ∙ sym (get-empty nat_cmp a))
 
-pub written_put : (pool later : Pool) (buffer after : Buffered) (a : ℕ) (v : ℤ) → entry_at later after a ≡ Some v → ((q : ℕ) → q ≢ a → entry_at later after q ≡ entry_at pool buffer q) → written_of later after ≡ insert (written_of pool buffer) a v
+pub written_put : (pool later : Pool) (buffer after : Buffered) (a : ℕ) (v : ℤ) → entry_at later after a ≡ Some v → ((q : ℕ) → q ≢ a → entry_at later after q ≡ entry_at pool buffer q)
+    → written_of later after ≡ insert (written_of pool buffer) a v
 written_put pool later buffer after a v here others =
     same_map nat_cmp_total nat_cmp-IsAntisymmetric _ _ (λ q.
     get_written later after q
@@ -79,7 +81,8 @@ Puts pool buffer now f a new v =
     (written_of (set pool f (Some new)) (record buffer { masks = with_mark buffer.masks a }) ≡ insert (written_of pool now) a v)
     × ChangesOwn pool (set pool f (Some new)) now (record buffer { masks = with_mark buffer.masks a })
 
-put_here : (pool : Pool) (buffer : Buffered) (f a : ℕ) (words new : List ℤ) (v : ℤ) → IsBuffer buffer.kinds buffer.frames buffer.masks → AreOut pool buffer.frames → a < length buffer.kinds → f ≡ frame_of buffer.frames (a / 64) → frame_at pool f ≡ Some words → length words ≡ 64 → new ≡ set words (a % 64) v
+put_here : (pool : Pool) (buffer : Buffered) (f a : ℕ) (words new : List ℤ) (v : ℤ) → IsBuffer buffer.kinds buffer.frames buffer.masks → AreOut pool buffer.frames → a < length buffer.kinds
+    → f ≡ frame_of buffer.frames (a / 64) → frame_at pool f ≡ Some words → length words ≡ 64 → new ≡ set words (a % 64) v
     → Puts pool buffer buffer f a new v
 put_here pool buffer f a words new v is own range frame read size made =
     let later : Pool = set pool f (Some new) in
@@ -132,7 +135,8 @@ put_here pool buffer f a words new v is own range frame read size made =
     )
 
 -- an entry is put: its word is written, and marked
-pub put_in : (pool : Pool) (buffer now : Buffered) (f a : ℕ) (words new : List ℤ) (v : ℤ) → buffer ≡ now → IsBuffer buffer.kinds buffer.frames buffer.masks → AreOut pool now.frames → a < length now.kinds → f ≡ frame_of buffer.frames (a / 64) → frame_at pool f ≡ Some words → length words ≡ 64 → new ≡ set words (a % 64) v
+pub put_in : (pool : Pool) (buffer now : Buffered) (f a : ℕ) (words new : List ℤ) (v : ℤ) → buffer ≡ now → IsBuffer buffer.kinds buffer.frames buffer.masks → AreOut pool now.frames
+    → a < length now.kinds → f ≡ frame_of buffer.frames (a / 64) → frame_at pool f ≡ Some words → length words ≡ 64 → new ≡ set words (a % 64) v
     → Puts pool buffer now f a new v
 put_in pool buffer now f a words new v view is own range frame read size made =
     subst (λ (n : Buffered). Puts pool buffer n f a new v) view

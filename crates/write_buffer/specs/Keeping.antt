@@ -1,5 +1,6 @@
 -- Laws of what a view keeps.
-use Rattle.std.proofs.Common.{◌≡◌, ◌≢◌, ℕ, ◌<◌, ◌≤◌, ℤ, List, length, Option, None, true, false, is_some, refl, sym, ap, ◌∙◌, subst, arith, ⊎_elim}
+use Rattle.std.proofs.Common.{◌≡◌, ◌≢◌, ℕ, ◌<◌, ◌≤◌, ℤ, List, length, Option, None, true, false, is_some, refl, sym, ap, ◌∙◌, subst, arith}
+use Rattle.std.proofs.Common.{⊎_elim}
 use Rattle.std.proofs.lemmas.Bool.{cases_lt}
 use Rattle.cal_base.specs.Pages.{Paged}
 use Rattle.frame_pool.specs.Pool.{Pool, IsOut, frame_at as words_in}
@@ -11,7 +12,8 @@ use Rattle.write_buffer.specs.Joined.{Joined, SameLoans, KeepsView}
 pub same_loans : {N : Type 0} (pool cache buffer : N) (source : Paged) → SameLoans pool pool cache cache buffer buffer source source
 same_loans pool cache buffer source = record { pool_same = refl; cache_same = refl; buffer_same = refl; source_same = refl }
 
-pub loans_on : {N : Type 0} {p1 p2 p3 c1 c2 c3 b1 b2 b3 : N} {s1 s2 s3 : Paged} → SameLoans p1 p2 c1 c2 b1 b2 s1 s2 → SameLoans p2 p3 c2 c3 b2 b3 s2 s3 → SameLoans p1 p3 c1 c3 b1 b3 s1 s3
+pub loans_on : {N : Type 0} {p1 p2 p3 c1 c2 c3 b1 b2 b3 : N} {s1 s2 s3 : Paged} → SameLoans p1 p2 c1 c2 b1 b2 s1 s2
+    → SameLoans p2 p3 c2 c3 b2 b3 s2 s3 → SameLoans p1 p3 c1 c3 b1 b3 s1 s3
 loans_on one two = record {
   pool_same = two.pool_same ∙ one.pool_same;
   cache_same = two.cache_same ∙ one.cache_same;
@@ -37,10 +39,13 @@ free_not_out pool f g free out same =
     let none : is_some (words_in pool f) ≡ false = ap (λ (o : Option (List ℤ)). is_some o) free in
     cc
 
-pub view_on : (p1 p2 p3 : Pool) (c1 c2 c3 : Cached) (b1 b2 b3 : Buffered) (source : Paged) → Joined p2 c2 b2 source → KeepsView p1 p2 c1 c2 b1 b2 → KeepsView p2 p3 c2 c3 b2 b3 → KeepsView p1 p3 c1 c3 b1 b3
+pub view_on : (p1 p2 p3 : Pool) (c1 c2 c3 : Cached) (b1 b2 b3 : Buffered) (source : Paged) → Joined p2 c2 b2 source
+    → KeepsView p1 p2 c1 c2 b1 b2 → KeepsView p2 p3 c2 c3 b2 b3 → KeepsView p1 p3 c1 c3 b1 b3
 view_on p1 p2 p3 c1 c2 c3 b1 b2 b3 source joined one two =
-    let foreign_two : (f : ℕ) → IsForeign b1.frames f → IsForeign b2.frames f = λ f foreign. subst (λ (l : List ℕ). IsForeign l f) (sym one.frames) foreign in
-    let new_two : (f : ℕ) → IsNewFrame c3.kept f → IsNewFrame c2.kept f = λ f new i there e. new i (omega (arith, two.no_fewer)) (two.same i there ∙ e) in
+    let foreign_two : (f : ℕ) → IsForeign b1.frames f → IsForeign b2.frames f = λ f foreign. subst (λ (l : List ℕ). IsForeign l f)
+    (sym one.frames) foreign in
+    let new_two : (f : ℕ) → IsNewFrame c3.kept f → IsNewFrame c2.kept f = λ f new i there e. new i (omega (arith, two.no_fewer))
+    (two.same i there ∙ e) in
     record {
       size = two.size ∙ one.size;
       kinds = two.kinds ∙ one.kinds;

@@ -8,7 +8,8 @@ use Rattle.calypso_cli.proofs.eval.evaluate.Goals as goal
 
 pub returns-in-Ok-clause-ends : goal.returns-in-Ok-clause-ends
 returns-in-Ok-clause-ends g c =
-    ends_whole (run_of false (meaning c.args.program.now usual_fuel)) (g.S.Sink.written c.args.out.now) (g.S.Sink.written c.eval.new.out) (g.S.Sink.faults c.args.out.now) (g.S.Sink.faults c.eval.new.out)
+    ends_whole (run_of false (meaning c.args.program.now usual_fuel)) (g.S.Sink.written c.args.out.now) (g.S.Sink.written c.eval.new.out) (g.S.Sink.faults c.args.out.now)
+    (g.S.Sink.faults c.eval.new.out)
     (ending_seen c.of_run.result) c.in-Ok.ensures.whole (c.of_run.ensures ∙ ap ended c.in-Ok.ensures.end)
 
 pub returns-in-Err-OutFailed-clause-ends : goal.returns-in-Err-OutFailed-clause-ends

@@ -23,7 +23,8 @@ returns-in-Err-clause-works g c =
     (objects_of (g.F.Files.holds c.args.files.now) (g.S.Sink.written c.args.out.now) (g.F.Files.faults c.args.files.now) (g.S.Sink.faults c.args.out.now))
     (objects_of (g.F.Files.holds c.load_module.new.files) (g.S.Sink.written c.args.out.now) (g.F.Files.faults c.load_module.new.files) (g.S.Sink.faults c.args.out.now))
     c.of.result c.in-Err.ending c.of.ensures.ending c.of.ensures.report
-    (does_stop (exec c.args.file.now (flags_seen c.args.flags.now)) c.args.file.now module_limit IsModule IsModuleRefusal IsNoModule (Goes (flags_seen c.args.flags.now) (runs_module (flags_seen c.args.flags.now)))
+    (does_stop (exec c.args.file.now (flags_seen c.args.flags.now)) c.args.file.now module_limit IsModule IsModuleRefusal IsNoModule
+    (Goes (flags_seen c.args.flags.now) (runs_module (flags_seen c.args.flags.now)))
     (first_exec c.args.file.now (flags_seen c.args.flags.now))
     (objects_of (g.F.Files.holds c.args.files.now) (g.S.Sink.written c.args.out.now) (g.F.Files.faults c.args.files.now) (g.S.Sink.faults c.args.out.now))
     (objects_of (g.F.Files.holds c.load_module.new.files) (g.S.Sink.written c.args.out.now) (g.F.Files.faults c.load_module.new.files) (g.S.Sink.faults c.args.out.now))
@@ -33,12 +34,15 @@ pub returns-in-Ok-load_script-clause-works : goal.returns-in-Ok-load_script-clau
 returns-in-Ok-load_script-clause-works g c =
     let same = told_then (g.F.Files.holds c.args.files.now) (g.F.Files.holds c.load_module.new.files) (g.F.Files.holds c.load_script.new.files) SameFiles SameFiles SameFiles
     c.load_module.ensures.files c.load_script.ensures.files same_same in
-    works_run (exec c.args.file.now (flags_seen c.args.flags.now)) (flags_seen c.args.flags.now) c.in-Ok-load_script.script (IsTraceOf (steps_of (machine_main c.in-Ok.code c.args.flags.now.fuel))) (runs_module (flags_seen c.args.flags.now) c.in-Ok.code)
+    works_run (exec c.args.file.now (flags_seen c.args.flags.now)) (flags_seen c.args.flags.now) c.in-Ok-load_script.script (IsTraceOf (steps_of (machine_main c.in-Ok.code c.args.flags.now.fuel)))
+    (runs_module (flags_seen c.args.flags.now) c.in-Ok.code)
     (objects_of (g.F.Files.holds c.args.files.now) (g.S.Sink.written c.args.out.now) (g.F.Files.faults c.args.files.now) (g.S.Sink.faults c.args.out.now))
     (objects_of (g.F.Files.holds c.execute.new.files) (g.S.Sink.written c.execute.new.out) (g.F.Files.faults c.execute.new.files) (g.S.Sink.faults c.execute.new.out))
     (exec_there c.args.file.now (flags_seen c.args.flags.now) c.in-Ok-load_script.script (g.F.Files.holds c.args.files.now) c.in-Ok.code c.in-Ok.ensures.loaded
-    (rows_behind (g.F.Files.holds c.args.files.now) (g.F.Files.holds c.load_module.new.files) (flags_seen c.args.flags.now).script c.in-Ok-load_script.script c.load_module.ensures.files c.in-Ok-load_script.ensures.rows))
-    (ends_behind (IsTraceOf (steps_of (machine_main c.in-Ok.code c.args.flags.now.fuel))) (runs_module (flags_seen c.args.flags.now) c.in-Ok.code) (flags_seen c.args.flags.now) c.in-Ok-load_script.script (g.F.Files.holds c.args.files.now) (g.F.Files.faults c.args.files.now)
+    (rows_behind (g.F.Files.holds c.args.files.now) (g.F.Files.holds c.load_module.new.files) (flags_seen c.args.flags.now).script c.in-Ok-load_script.script c.load_module.ensures.files
+    c.in-Ok-load_script.ensures.rows))
+    (ends_behind (IsTraceOf (steps_of (machine_main c.in-Ok.code c.args.flags.now.fuel))) (runs_module (flags_seen c.args.flags.now) c.in-Ok.code) (flags_seen c.args.flags.now)
+    c.in-Ok-load_script.script (g.F.Files.holds c.args.files.now) (g.F.Files.faults c.args.files.now)
     (objects_of (g.F.Files.holds c.load_script.new.files) (g.S.Sink.written c.args.out.now) (g.F.Files.faults c.load_script.new.files) (g.S.Sink.faults c.args.out.now))
     (objects_of (g.F.Files.holds c.execute.new.files) (g.S.Sink.written c.execute.new.out) (g.F.Files.faults c.execute.new.files) (g.S.Sink.faults c.execute.new.out))
     same (omega (arith, c.load_module.ensures.later, c.load_script.ensures.later)) c.execute.ensures.ends)
@@ -51,7 +55,8 @@ returns-clause-works g c =
     (objects_of (g.F.Files.holds c.args.files.now) (g.S.Sink.written c.args.out.now) (g.F.Files.faults c.args.files.now) (g.S.Sink.faults c.args.out.now))
     (objects_of (g.F.Files.holds c.load_script.new.files) (g.S.Sink.written c.args.out.now) (g.F.Files.faults c.load_script.new.files) (g.S.Sink.faults c.args.out.now))
     c.of-in-Err-load_script.result c.in-Err-load_script.ending c.of-in-Err-load_script.ensures.ending c.of-in-Err-load_script.ensures.report
-    (script_ends (flags_seen c.args.flags.now) (runs_module (flags_seen c.args.flags.now)) (exec c.args.file.now (flags_seen c.args.flags.now)) c.args.file.now module_limit IsModule IsModuleRefusal IsNoModule
+    (script_ends (flags_seen c.args.flags.now) (runs_module (flags_seen c.args.flags.now)) (exec c.args.file.now (flags_seen c.args.flags.now)) c.args.file.now module_limit IsModule IsModuleRefusal
+    IsNoModule
     (first_exec c.args.file.now (flags_seen c.args.flags.now))
     (objects_of (g.F.Files.holds c.args.files.now) (g.S.Sink.written c.args.out.now) (g.F.Files.faults c.args.files.now) (g.S.Sink.faults c.args.out.now))
     (objects_of (g.F.Files.holds c.load_script.new.files) (g.S.Sink.written c.args.out.now) (g.F.Files.faults c.load_script.new.files) (g.S.Sink.faults c.args.out.now))

@@ -14,7 +14,8 @@ use Rattle.calypso_cli.proofs.execute.execute.Goals as goal
 
 pub returns-in-Err-clause-ends : goal.returns-in-Err-clause-ends
 returns-in-Err-clause-ends g c =
-    ended_as (IsTraceOf (steps_of (machine_main c.args.code.now c.args.flags.now.fuel))) (run_of c.args.flags.now.steps (machine_meaning c.args.code.now c.args.flags.now.fuel)) (flags_seen c.args.flags.now) c.args.script.now
+    ended_as (IsTraceOf (steps_of (machine_main c.args.code.now c.args.flags.now.fuel))) (run_of c.args.flags.now.steps (machine_meaning c.args.code.now c.args.flags.now.fuel))
+    (flags_seen c.args.flags.now) c.args.script.now
     (objects_of (g.F.Files.holds c.args.files.now) (g.S.Sink.written c.args.out.now) (g.F.Files.faults c.args.files.now) (g.S.Sink.faults c.args.out.now))
     (objects_of (g.F.Files.holds c.create_log.new.files) (g.S.Sink.written c.args.out.now) (g.F.Files.faults c.create_log.new.files) (g.S.Sink.faults c.args.out.now))
     c.of.result c.in-Err.ending c.of.ensures.ending c.of.ensures.report
@@ -22,7 +23,8 @@ returns-in-Err-clause-ends g c =
     (g.F.Files.holds c.args.files.now) (g.F.Files.holds c.create_log.new.files) (g.F.Files.holds c.create_log.new.files) (g.S.Sink.written c.args.out.now) (g.S.Sink.written c.args.out.now)
     (g.F.Files.faults c.args.files.now) (g.F.Files.faults c.create_log.new.files) (g.F.Files.faults c.create_log.new.files) (g.S.Sink.faults c.args.out.now) (g.S.Sink.faults c.args.out.now)
     (ending_seen c.in-Err.ending)
-    (subst (λ log. NotCreated log (g.F.Files.holds c.args.files.now) (g.F.Files.holds c.create_log.new.files) (g.F.Files.faults c.args.files.now) (g.F.Files.faults c.create_log.new.files) (ending_seen c.in-Err.ending))
+    (subst (λ log. NotCreated log (g.F.Files.holds c.args.files.now) (g.F.Files.holds c.create_log.new.files) (g.F.Files.faults c.args.files.now) (g.F.Files.faults c.create_log.new.files)
+    (ending_seen c.in-Err.ending))
     c.log_name-log.ensures c.in-Err.ensures.err))
 
 pub returns-in-Ok-clause-ends : goal.returns-in-Ok-clause-ends
@@ -37,8 +39,10 @@ returns-in-Ok-clause-ends g c =
 
 pub returns-in-Err-run-clause-ends : goal.returns-in-Err-run-clause-ends
 returns-in-Err-run-clause-ends g c =
-    let front = subst (λ log. LogsFrontOf (steps_of (machine_main c.args.code.now c.args.flags.now.fuel)) log (g.F.Files.holds c.create_log.new.files) (g.F.Files.holds c.run.new.files)) c.log_name-log.ensures c.in-Err-run.ensures.front in
-    ended_as (IsTraceOf (steps_of (machine_main c.args.code.now c.args.flags.now.fuel))) (run_of c.args.flags.now.steps (machine_meaning c.args.code.now c.args.flags.now.fuel)) (flags_seen c.args.flags.now) c.args.script.now
+    let front = subst (λ log. LogsFrontOf (steps_of (machine_main c.args.code.now c.args.flags.now.fuel)) log (g.F.Files.holds c.create_log.new.files) (g.F.Files.holds c.run.new.files))
+    c.log_name-log.ensures c.in-Err-run.ensures.front in
+    ended_as (IsTraceOf (steps_of (machine_main c.args.code.now c.args.flags.now.fuel))) (run_of c.args.flags.now.steps (machine_meaning c.args.code.now c.args.flags.now.fuel))
+    (flags_seen c.args.flags.now) c.args.script.now
     (objects_of (g.F.Files.holds c.args.files.now) (g.S.Sink.written c.args.out.now) (g.F.Files.faults c.args.files.now) (g.S.Sink.faults c.args.out.now))
     (objects_of (g.F.Files.holds c.run.new.files) (g.S.Sink.written c.run.new.out) (g.F.Files.faults c.run.new.files) (g.S.Sink.faults c.run.new.out))
     c.of-in-Err-run.result c.given_up.result c.of-in-Err-run.ensures.ending c.of-in-Err-run.ensures.report

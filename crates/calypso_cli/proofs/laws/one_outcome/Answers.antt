@@ -9,7 +9,8 @@ use Rattle.machine_meaning.specs.Meaning.{machine_meaning}
 use Rattle.command_words.specs.Commands.{Flags, check, eval, run, sim, build, exec, gen, selfrun}
 use Rattle.csl_grammar.specs.Texts.{text_limit}
 use Rattle.calypso_cli.specs.Outcomes.{Sight, Outcome, Work, Does, Creates}
-use Rattle.calypso_cli.specs.Commands.{IsRefusedText, IsModule, IsNoModule, module_limit, IsScript, IsNoScript, script_limit, WithScript, IsEvents, IsNoEvents, events_limit, WithEvents, run_of, check_of, build_of, gen_of, usual_fuel}
+use Rattle.calypso_cli.specs.Commands.{IsRefusedText, IsModule, IsNoModule, module_limit, IsScript, IsNoScript, script_limit, WithScript, IsEvents, IsNoEvents, events_limit, WithEvents, run_of}
+use Rattle.calypso_cli.specs.Commands.{check_of, build_of, gen_of, usual_fuel}
 use Rattle.calypso_cli.specs.Laws.{ComesToOne}
 use Rattle.program_gen.specs.Generated.{generated}
 use Rattle.calypso_cli.proofs.Only.{one_load, one_create}

@@ -22,7 +22,8 @@ returns-in-Ok-read_events-clause-workers g c = listed_workers c.deref.result.now
 pub returns-in-Err-Refused-clause-stops : goal.returns-in-Err-Refused-clause-stops
 returns-in-Err-Refused-clause-stops g c =
     step.turned (events_refused c.in-Err-Refused.line) (c.in-Err-Refused.line, refl)
-    (holds_fact 1048576 (g.F.Files.holds c.args.files.now) c.args.file.now c.in-Ok.bytes.items (λ bytes. (length bytes ≤ events_limit) × IsNoEvents bytes (events_refused c.in-Err-Refused.line)) c.in-Ok.ensures.loaded c.in-Ok.ensures.few
+    (holds_fact 1048576 (g.F.Files.holds c.args.files.now) c.args.file.now c.in-Ok.bytes.items (λ bytes. (length bytes ≤ events_limit) × IsNoEvents bytes (events_refused c.in-Err-Refused.line))
+    c.in-Ok.ensures.loaded c.in-Ok.ensures.few
     (c.in-Ok.ensures.few, (c.in-Err-Refused.line, subst (λ bytes. events_of bytes ≡ Err c.in-Err-Refused.line) c.deref.ensures.value (c.in-Err-Refused.ensures.refused c.in-Err-Refused.line (ap (λ e. Err e) c.in-Err-Refused.field-0-is)), refl)))
 
 pub returns-clause-stops : goal.returns-clause-stops

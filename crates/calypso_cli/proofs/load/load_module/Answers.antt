@@ -18,6 +18,7 @@ returns-in-Ok-clause-loaded g c =
 pub returns-in-Ok-clause-stops : goal.returns-in-Ok-clause-stops
 returns-in-Ok-clause-stops g c =
     if_err_as (λ ending. (ending_seen ending ≡ no_memory) ⊎ IsNoModule c.deref.result.now (ending_seen ending))
-    (λ ending. StopsLoad (g.F.Files.holds c.args.files.now) c.args.file.now module_limit IsModuleRefusal IsNoModule (g.F.Files.faults c.args.files.now) (g.F.Files.faults c.load_bytes.new.files) (ending_seen ending)) c.read_module.result
+    (λ ending. StopsLoad (g.F.Files.holds c.args.files.now) c.args.file.now module_limit IsModuleRefusal IsNoModule (g.F.Files.faults c.args.files.now) (g.F.Files.faults c.load_bytes.new.files)
+    (ending_seen ending)) c.read_module.result
     (λ ending h. not_read (g.F.Files.holds c.args.files.now) c.args.file.now c.in-Ok.bytes.items (g.F.Files.faults c.args.files.now) (g.F.Files.faults c.load_bytes.new.files) (ending_seen ending)
     c.in-Ok.ensures.loaded c.in-Ok.ensures.few (subst (λ b. (ending_seen ending ≡ no_memory) ⊎ IsNoModule b (ending_seen ending)) c.deref.ensures.value h)) c.read_module.ensures.turned

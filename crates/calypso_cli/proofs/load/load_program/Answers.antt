@@ -23,7 +23,8 @@ returns-in-Err-Refused-clause-stops g c =
     let at = c.in-Err-Refused.at in
     let why = c.in-Err-Refused.why in
     step.turned (refused at why) (at, why, refl)
-    (holds_fact 1048576 (g.F.Files.holds c.args.files.now) c.args.file.now c.in-Ok.text.items (λ bytes. (length bytes ≤ text_limit) × IsRefusedText bytes (refused at why)) c.in-Ok.ensures.loaded c.in-Ok.ensures.few
+    (holds_fact 1048576 (g.F.Files.holds c.args.files.now) c.args.file.now c.in-Ok.text.items (λ bytes. (length bytes ≤ text_limit) × IsRefusedText bytes (refused at why)) c.in-Ok.ensures.loaded
+    c.in-Ok.ensures.few
     (c.in-Ok.ensures.few, (at, why, subst (λ bytes. IsRead bytes (reading.refused at why)) c.deref.ensures.value (subst (IsRefused c.deref.result.now) c.in-Err-Refused.field-0-is c.in-Err-Refused.ensures.refused), refl)))
 
 pub returns-clause-stops : goal.returns-clause-stops

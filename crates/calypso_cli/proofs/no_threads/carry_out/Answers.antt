@@ -25,10 +25,12 @@ returns-in-Gen-clause-works g c =
     (ending_seen c.write_generated.result) []) (sym (ap command_seen c.in-Gen.is)) (c.write_generated.ensures.works (g.F.Files.holds c.args.files.now) (g.F.Files.faults c.args.files.now))
 
 pub sim_file-requires-clause-program : goal.sim_file-requires-clause-program
-sim_file-requires-clause-program g c = c.requires.may_use.load c.as_str-in-Sim.result.now (subst (λ k. IsLoaded k c.as_str-in-Sim.result.now) (sym (ap command_seen c.in-Sim.is)) (inl c.as_str-in-Sim.ensures.value))
+sim_file-requires-clause-program g c = c.requires.may_use.load c.as_str-in-Sim.result.now (subst (λ k. IsLoaded k c.as_str-in-Sim.result.now) (sym (ap command_seen c.in-Sim.is))
+    (inl c.as_str-in-Sim.ensures.value))
 
 pub sim_file-requires-clause-events : goal.sim_file-requires-clause-events
-sim_file-requires-clause-events g c = c.requires.may_use.load c.as_str-in-Sim-2.result.now (subst (λ k. IsLoaded k c.as_str-in-Sim-2.result.now) (sym (ap command_seen c.in-Sim.is)) (inr c.as_str-in-Sim-2.ensures.value))
+sim_file-requires-clause-events g c = c.requires.may_use.load c.as_str-in-Sim-2.result.now (subst (λ k. IsLoaded k c.as_str-in-Sim-2.result.now) (sym (ap command_seen c.in-Sim.is))
+    (inr c.as_str-in-Sim-2.ensures.value))
 
 pub sim_file-requires-clause-write : goal.sim_file-requires-clause-write
 sim_file-requires-clause-write g c =

@@ -21,9 +21,11 @@ returns-in-Ok-clause-ends g c =
 
 pub returns-in-Err-clause-ends : goal.returns-in-Err-clause-ends
 returns-in-Err-clause-ends g c =
-    ended_as (IsTraceOf (steps_of (main c.args.program.now c.args.flags.now.fuel))) (run_of c.args.flags.now.steps (meaning c.args.program.now c.args.flags.now.fuel)) (flags_seen c.args.flags.now) c.args.script.now
+    ended_as (IsTraceOf (steps_of (main c.args.program.now c.args.flags.now.fuel))) (run_of c.args.flags.now.steps (meaning c.args.program.now c.args.flags.now.fuel)) (flags_seen c.args.flags.now)
+    c.args.script.now
     (objects_of (g.F.Files.holds c.args.files.now) (g.S.Sink.written c.args.out.now) (g.F.Files.faults c.args.files.now) (g.S.Sink.faults c.args.out.now))
     (objects_of (g.F.Files.holds c.args.files.now) (g.S.Sink.written c.args.out.now) (g.F.Files.faults c.args.files.now) (g.S.Sink.faults c.args.out.now))
     c.of.result NoMemory c.of.ensures.ending c.of.ensures.report
-    (not_compiled (IsTraceOf (steps_of (main c.args.program.now c.args.flags.now.fuel))) (run_of c.args.flags.now.steps (meaning c.args.program.now c.args.flags.now.fuel)) (flags_seen c.args.flags.now) c.args.script.now
+    (not_compiled (IsTraceOf (steps_of (main c.args.program.now c.args.flags.now.fuel))) (run_of c.args.flags.now.steps (meaning c.args.program.now c.args.flags.now.fuel))
+    (flags_seen c.args.flags.now) c.args.script.now
     (objects_of (g.F.Files.holds c.args.files.now) (g.S.Sink.written c.args.out.now) (g.F.Files.faults c.args.files.now) (g.S.Sink.faults c.args.out.now)))

@@ -19,7 +19,8 @@ returns-in_default-selfrun_script-clause-ends g c = step.no_room ([], refl, Appe
 
 pub returns-in-Ok-run-clause-ends : goal.returns-in-Ok-run-clause-ends
 returns-in-Ok-run-clause-ends g c =
-    ends_whole (run_of false (meaning c.args.program.now usual_fuel)) (g.S.Sink.written c.args.out.now) (g.S.Sink.written c.run.new.out) (g.S.Sink.faults c.args.out.now) (g.S.Sink.faults c.run.new.out)
+    ends_whole (run_of false (meaning c.args.program.now usual_fuel)) (g.S.Sink.written c.args.out.now) (g.S.Sink.written c.run.new.out) (g.S.Sink.faults c.args.out.now)
+    (g.S.Sink.faults c.run.new.out)
     (ending_seen c.of_run.result)
     (subst (λ (m : Meaning). Appends (g.S.Sink.written c.args.out.now) (g.S.Sink.written c.run.new.out) (text_of false m.events)) (c.in-Ok.ensures.means usual_fuel) c.in-Ok-run.ensures.whole)
     (c.of_run.ensures ∙ ap ended (c.in-Ok-run.ensures.end ∙ ap (λ (m : Meaning). m.ending) (c.in-Ok.ensures.means usual_fuel)))
@@ -27,9 +28,11 @@ returns-in-Ok-run-clause-ends g c =
 pub returns-in-Err-OutFailed-clause-ends : goal.returns-in-Err-OutFailed-clause-ends
 returns-in-Err-OutFailed-clause-ends g c =
     step.out_failed (c.in-Err-OutFailed.ensures.out_failed (ap (λ e. Err e) c.in-Err-OutFailed.field-0-is))
-    (subst (λ (m : Meaning). AppendsPrefix (g.S.Sink.written c.args.out.now) (g.S.Sink.written c.run.new.out) (text_of false m.events)) (c.in-Ok.ensures.means usual_fuel) c.in-Err-OutFailed.ensures.prefix)
+    (subst (λ (m : Meaning). AppendsPrefix (g.S.Sink.written c.args.out.now) (g.S.Sink.written c.run.new.out) (text_of false m.events)) (c.in-Ok.ensures.means usual_fuel)
+    c.in-Err-OutFailed.ensures.prefix)
 
 pub returns-in-Err-NoMemory-clause-ends : goal.returns-in-Err-NoMemory-clause-ends
 returns-in-Err-NoMemory-clause-ends g c =
     step.no_room
-    (subst (λ (m : Meaning). AppendsPrefix (g.S.Sink.written c.args.out.now) (g.S.Sink.written c.run.new.out) (text_of false m.events)) (c.in-Ok.ensures.means usual_fuel) c.in-Err-NoMemory.ensures.prefix)
+    (subst (λ (m : Meaning). AppendsPrefix (g.S.Sink.written c.args.out.now) (g.S.Sink.written c.run.new.out) (text_of false m.events)) (c.in-Ok.ensures.means usual_fuel)
+    c.in-Err-NoMemory.ensures.prefix)

@@ -21,7 +21,8 @@ pub returns-in-Ok-load_events-clause-works : goal.returns-in-Ok-load_events-clau
 returns-in-Ok-load_events-clause-works g c =
     let same = told_then (g.F.Files.holds c.args.files.now) (g.F.Files.holds c.load_program.new.files) (g.F.Files.holds c.load_events.new.files) SameFiles SameFiles SameFiles
     c.load_program.ensures.files c.load_events.ensures.files same_same in
-    sim_works c.args.file.now c.args.events.now (option_map (λ name. name.now) c.args.log) (g.F.Files.holds c.args.files.now) (g.F.Files.faults c.args.files.now) (g.F.Files.holds c.load_program.new.files)
+    sim_works c.args.file.now c.args.events.now (option_map (λ name. name.now) c.args.log) (g.F.Files.holds c.args.files.now) (g.F.Files.faults c.args.files.now)
+    (g.F.Files.holds c.load_program.new.files)
     (objects_of (g.F.Files.holds c.load_events.new.files) (g.S.Sink.written c.args.out.now) (g.F.Files.faults c.load_events.new.files) (g.S.Sink.faults c.args.out.now))
     (objects_of (g.F.Files.holds c.simulate.new.files) (g.S.Sink.written c.simulate.new.out) (g.F.Files.faults c.simulate.new.files) (g.S.Sink.faults c.simulate.new.out))
     c.in-Ok.program c.deref.result.now c.in-Ok.ensures.loaded c.load_program.ensures.files

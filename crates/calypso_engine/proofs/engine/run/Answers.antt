@@ -32,7 +32,8 @@ returns-in_err-tallies-clause-front g c =
     let was = outside_of (g.S.Sink.written c.args.out.now) (g.F.Files.holds c.args.files.now) in
     let p = err_from_is_err_and c.from_residual.result c.from_residual.ensures.1 in
     rw p.1
-    (gave_nothing o (machine_main m o.fuel) 0 (steps_are_numbered m o.fuel) p.0 was (log_holds c.args.files.now g.F.Files.holds g.F.Files.created g.met.F.Files.created_holds o.log c.requires.created)).logged
+    (gave_nothing o (machine_main m o.fuel) 0 (steps_are_numbered m o.fuel) p.0 was (log_holds c.args.files.now g.F.Files.holds g.F.Files.created g.met.F.Files.created_holds o.log
+    c.requires.created)).logged
 
 pub returns-in_err-tallies-clause-between : goal.returns-in_err-tallies-clause-between
 returns-in_err-tallies-clause-between g c = λ none.
@@ -47,7 +48,8 @@ returns-in_err-standing-clause-front g c =
     let was = outside_of (g.S.Sink.written c.args.out.now) (g.F.Files.holds c.args.files.now) in
     let p = err_from_is_err_and c.from_residual-in_err-standing.result c.from_residual-in_err-standing.ensures.1 in
     rw p.1
-    (gave_nothing o (machine_main m o.fuel) 0 (steps_are_numbered m o.fuel) p.0 was (log_holds c.args.files.now g.F.Files.holds g.F.Files.created g.met.F.Files.created_holds o.log c.requires.created)).logged
+    (gave_nothing o (machine_main m o.fuel) 0 (steps_are_numbered m o.fuel) p.0 was (log_holds c.args.files.now g.F.Files.holds g.F.Files.created g.met.F.Files.created_holds o.log
+    c.requires.created)).logged
 
 pub returns-in_err-standing-clause-between : goal.returns-in_err-standing-clause-between
 returns-in_err-standing-clause-between g c = λ none.
@@ -62,7 +64,8 @@ returns-in_err-team-clause-front g c =
     let was = outside_of (g.S.Sink.written c.args.out.now) (g.F.Files.holds c.args.files.now) in
     let p = err_from_is_err_and c.from_residual-in_err-team.result c.from_residual-in_err-team.ensures.1 in
     rw p.1
-    (gave_nothing o (machine_main m o.fuel) 0 (steps_are_numbered m o.fuel) p.0 was (log_holds c.args.files.now g.F.Files.holds g.F.Files.created g.met.F.Files.created_holds o.log c.requires.created)).logged
+    (gave_nothing o (machine_main m o.fuel) 0 (steps_are_numbered m o.fuel) p.0 was (log_holds c.args.files.now g.F.Files.holds g.F.Files.created g.met.F.Files.created_holds o.log
+    c.requires.created)).logged
 
 pub returns-in_err-team-clause-between : goal.returns-in_err-team-clause-between
 returns-in_err-team-clause-between g c = λ none.
@@ -81,7 +84,8 @@ returns-in-Err-clause-prefix g c =
     let s = c.in_ok-standing.standing in
     let was = outside_of (g.S.Sink.written c.args.out.now) (g.F.Files.holds c.args.files.now) in
     let now = outside_of (g.S.Sink.written c.run_on-came.new.out) (g.F.Files.holds c.run_on-came.new.files) in
-    (gave_front o (machine_main m o.fuel) (rest_of m o.fuel s) (first_rest m o s c.in_ok-standing.ensures) was now c.in-Err.error (subst (λ (r : Result RunEnd RunError). Comes o (rest_of m o.fuel s) c.in_ok-team.team c.run_on-came.new.team was now r) c.in-Err.is c.run_on-came.ensures.comes))
+    (gave_front o (machine_main m o.fuel) (rest_of m o.fuel s) (first_rest m o s c.in_ok-standing.ensures) was now c.in-Err.error
+    (subst (λ (r : Result RunEnd RunError). Comes o (rest_of m o.fuel s) c.in_ok-team.team c.run_on-came.new.team was now r) c.in-Err.is c.run_on-came.ensures.comes))
 
 pub returns-in-Err-clause-front : goal.returns-in-Err-clause-front
 returns-in-Err-clause-front g c =
@@ -90,7 +94,8 @@ returns-in-Err-clause-front g c =
     let s = c.in_ok-standing.standing in
     let was = outside_of (g.S.Sink.written c.args.out.now) (g.F.Files.holds c.args.files.now) in
     let now = outside_of (g.S.Sink.written c.run_on-came.new.out) (g.F.Files.holds c.run_on-came.new.files) in
-    (gave_log o (machine_main m o.fuel) (rest_of m o.fuel s) (first_rest m o s c.in_ok-standing.ensures) was now c.in-Err.error (subst (λ (r : Result RunEnd RunError). Comes o (rest_of m o.fuel s) c.in_ok-team.team c.run_on-came.new.team was now r) c.in-Err.is c.run_on-came.ensures.comes))
+    (gave_log o (machine_main m o.fuel) (rest_of m o.fuel s) (first_rest m o s c.in_ok-standing.ensures) was now c.in-Err.error
+    (subst (λ (r : Result RunEnd RunError). Comes o (rest_of m o.fuel s) c.in_ok-team.team c.run_on-came.new.team was now r) c.in-Err.is c.run_on-came.ensures.comes))
 
 pub returns-in-Err-clause-between : goal.returns-in-Err-clause-between
 returns-in-Err-clause-between g c = λ none.
@@ -99,7 +104,9 @@ returns-in-Err-clause-between g c = λ none.
     let s = c.in_ok-standing.standing in
     let was = outside_of (g.S.Sink.written c.args.out.now) (g.F.Files.holds c.args.files.now) in
     let now = outside_of (g.S.Sink.written c.run_on-came.new.out) (g.F.Files.holds c.run_on-came.new.files) in
-    gave_between o (machine_main m o.fuel) (rest_of m o.fuel s) (first_rest m o s c.in_ok-standing.ensures) was now c.in-Err.error (subst (λ (r : Result RunEnd RunError). Comes o (rest_of m o.fuel s) c.in_ok-team.team c.run_on-came.new.team was now r) c.in-Err.is c.run_on-came.ensures.comes) (err_is c.in-Err.error NoMemory none)
+    gave_between o (machine_main m o.fuel) (rest_of m o.fuel s) (first_rest m o s c.in_ok-standing.ensures) was now c.in-Err.error
+    (subst (λ (r : Result RunEnd RunError). Comes o (rest_of m o.fuel s) c.in_ok-team.team c.run_on-came.new.team was now r) c.in-Err.is c.run_on-came.ensures.comes)
+    (err_is c.in-Err.error NoMemory none)
 
 pub returns-in-Ok-clause-end : goal.returns-in-Ok-clause-end
 returns-in-Ok-clause-end g c =
@@ -129,10 +136,13 @@ returns-in-Ok-clause-told g c =
     let was = outside_of (g.S.Sink.written c.args.out.now) (g.F.Files.holds c.args.files.now) in
     let now = outside_of (g.S.Sink.written c.run_on-came.new.out) (g.F.Files.holds c.run_on-came.new.files) in
     came_told o (machine_main m o.fuel) (rest_of m o.fuel s) (first_rest m o s c.in_ok-standing.ensures) was now c.in-Ok.ended c.in_ok-team.team c.run_on-came.new.team
-    (subst (λ (r : Result RunEnd RunError). Comes o (rest_of m o.fuel s) c.in_ok-team.team c.run_on-came.new.team was now r) c.in-Ok.is c.run_on-came.ensures.comes) c.in_ok-standing.standing.image m c.in_ok-team.ensures (held_of c.run_on-came.result c.in-Ok.ended c.in-Ok.is c.run_on-came.ensures.tallies) c.from_vec.result
-    (c.from_vec.ensures ∙ c.add_tallies.ensures ∙ ap (λ (l : List WorkerTally). l ++ (tallies_of c.run_on-came.new.team.workers.items ++ c.run_on-came.new.team.caller.tally ∷ [])) c.in_ok-tallies.ensures.items)
+    (subst (λ (r : Result RunEnd RunError). Comes o (rest_of m o.fuel s) c.in_ok-team.team c.run_on-came.new.team was now r) c.in-Ok.is c.run_on-came.ensures.comes) c.in_ok-standing.standing.image m
+    c.in_ok-team.ensures (held_of c.run_on-came.result c.in-Ok.ended c.in-Ok.is c.run_on-came.ensures.tallies) c.from_vec.result
+    (c.from_vec.ensures ∙ c.add_tallies.ensures ∙ ap (λ (l : List WorkerTally). l ++ (tallies_of c.run_on-came.new.team.workers.items ++ c.run_on-came.new.team.caller.tally ∷ []))
+    c.in_ok-tallies.ensures.items)
 
 pub add_tallies-requires : goal.add_tallies-requires
 add_tallies-requires g c =
     let has = held_of c.run_on-came.result c.in-Ok.ended c.in-Ok.is c.run_on-came.ensures.tallies in
-    room_is _ _ c.args.options.now.workers (length c.run_on-came.new.team.workers.items) c.in_ok-tallies.ensures.len (c.in_ok-tallies.ensures.capacity) (c.from.ensures) (team_count c.args.options.now.workers c.run_on-came.new.team.workers.items has.numbers)
+    room_is _ _ c.args.options.now.workers (length c.run_on-came.new.team.workers.items) c.in_ok-tallies.ensures.len (c.in_ok-tallies.ensures.capacity) (c.from.ensures)
+    (team_count c.args.options.now.workers c.run_on-came.new.team.workers.items has.numbers)

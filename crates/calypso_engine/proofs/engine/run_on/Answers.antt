@@ -27,13 +27,15 @@ events-preserved g c =
     let mid = outside_of (g.S.Sink.written c.events.out) (g.F.Files.holds c.events.files) in
     let now = outside_of (g.S.Sink.written c.event.new.out) (g.F.Files.holds c.event.new.files) in
     let goes =
-    subst (λ (r : Option RunEnd). Goes c.args.code.now o (rest_of c.args.code.now o.fuel c.events.standing) c.event.new.standing c.events.team c.event.new.team mid now (Ok r)) c.in-None.is c.in_ok-event.ensures.goes
+    subst (λ (r : Option RunEnd). Goes c.args.code.now o (rest_of c.args.code.now o.fuel c.events.standing) c.event.new.standing c.events.team c.event.new.team mid now (Ok r)) c.in-None.is
+    c.in_ok-event.ensures.goes
     in
     record {
       ready = c.in_ok-event.ensures.ready (ap (λ (r : Option RunEnd). Ok r) c.in-None.is);
       made = made_stays o.log (g.F.Files.created c.events.files) (g.F.Files.created c.event.new.files) c.in_ok-event.ensures.created c.events.invariant.made;
       went =
-          went_then o c.args.code.now (rest_of c.args.code.now o.fuel c.args.standing.now) c.events.standing c.args.team.now c.events.team was mid c.events.invariant.went c.event.new.standing c.event.new.team now goes;
+          went_then o c.args.code.now (rest_of c.args.code.now o.fuel c.args.standing.now) c.events.standing c.args.team.now c.events.team was mid c.events.invariant.went c.event.new.standing
+          c.event.new.team now goes;
       created = λ name made. c.in_ok-event.ensures.created name (c.events.invariant.created name made);
       files_later = omega (arith, c.events.invariant.files_later, c.in_ok-event.ensures.files_later);
       out_later = omega (arith, c.events.invariant.out_later, c.in_ok-event.ensures.out_later);
@@ -57,6 +59,8 @@ returns-in-Some-clause-comes g c =
     let mid = outside_of (g.S.Sink.written c.events.out) (g.F.Files.holds c.events.files) in
     let now = outside_of (g.S.Sink.written c.event.new.out) (g.F.Files.holds c.event.new.files) in
     let goes =
-    subst (λ (r : Option RunEnd). Goes c.args.code.now o (rest_of c.args.code.now o.fuel c.events.standing) c.event.new.standing c.events.team c.event.new.team mid now (Ok r)) c.in-Some.is c.in_ok-event.ensures.goes
+    subst (λ (r : Option RunEnd). Goes c.args.code.now o (rest_of c.args.code.now o.fuel c.events.standing) c.event.new.standing c.events.team c.event.new.team mid now (Ok r)) c.in-Some.is
+    c.in_ok-event.ensures.goes
     in
-    came_then o c.args.code.now (rest_of c.args.code.now o.fuel c.args.standing.now) c.events.standing c.args.team.now c.events.team was mid c.events.invariant.went c.in-Some.ended c.event.new.team now goes
+    came_then o c.args.code.now (rest_of c.args.code.now o.fuel c.args.standing.now) c.events.standing c.args.team.now c.events.team was mid c.events.invariant.went c.in-Some.ended c.event.new.team
+    now goes

@@ -32,7 +32,8 @@ step-requires-clause-may g c κs within =
     let o = c.args.options.now in
     let before = c.args.standing.now in
     let mid : Standing = record { machine = c.run_main.new.self; image = c.run_main.new.image; kept = before.kept; steps = before.steps } in
-    step_may c.args.code.now o before c.args.team.now c.requires.ready mid c.in-Par.first_block (opens_next c.args.code.now o.fuel c.in-Par.first_block before mid (c.in-Par.ensures.meaning o.fuel before.steps))
+    step_may c.args.code.now o before c.args.team.now c.requires.ready mid c.in-Par.first_block
+    (opens_next c.args.code.now o.fuel c.in-Par.first_block before mid (c.in-Par.ensures.meaning o.fuel before.steps))
     c.run_main.ensures.later refl refl
 
 pub returns-in_ok-print-in-Print-clause-goes : goal.returns-in_ok-print-in-Print-clause-goes
@@ -49,7 +50,8 @@ returns-in_ok-print-in-Print-clause-ready g c = λ none.
     let o = c.args.options.now in
     let before = c.args.standing.now in
     let mid : Standing = record { machine = c.run_main.new.self; image = c.run_main.new.image; kept = before.kept; steps = before.steps } in
-    line_ready c.args.code.now o before c.args.team.now c.requires.ready mid (line_of (map (piece_of c.args.code.now) mid.machine.items)) (c.in-Print.ensures.meaning o.fuel before.steps) c.in-Print.ensures.told.may
+    line_ready c.args.code.now o before c.args.team.now c.requires.ready mid (line_of (map (piece_of c.args.code.now) mid.machine.items)) (c.in-Print.ensures.meaning o.fuel before.steps)
+    c.in-Print.ensures.told.may
     c.run_main.ensures.later refl refl
 
 pub returns-in_ok-print-in-Print-clause-falls : goal.returns-in_ok-print-in-Print-clause-falls
@@ -62,7 +64,8 @@ returns-in-Par-clause-goes g c =
     let before = c.args.standing.now in
     let mid : Standing = record { machine = c.run_main.new.self; image = c.run_main.new.image; kept = before.kept; steps = before.steps } in
     subst
-    (λ (r : Main). Goes c.args.code.now o r c.step.new.standing c.args.team.now c.step.new.team (outside_of (g.S.Sink.written c.args.out.now) (g.F.Files.holds c.args.files.now)) (outside_of (g.S.Sink.written c.step.new.out) (g.F.Files.holds c.step.new.files)) c.step.result)
+    (λ (r : Main). Goes c.args.code.now o r c.step.new.standing c.args.team.now c.step.new.team (outside_of (g.S.Sink.written c.args.out.now) (g.F.Files.holds c.args.files.now))
+    (outside_of (g.S.Sink.written c.step.new.out) (g.F.Files.holds c.step.new.files)) c.step.result)
     (sym (opens_next c.args.code.now o.fuel c.in-Par.first_block before mid (c.in-Par.ensures.meaning o.fuel before.steps))) c.step.ensures.goes
 
 pub returns-in-Par-clause-ready : goal.returns-in-Par-clause-ready
@@ -82,7 +85,8 @@ pub returns-in-Halt-clause-goes : goal.returns-in-Halt-clause-goes
 returns-in-Halt-clause-goes g c =
     let o = c.args.options.now in
     let before = c.args.standing.now in
-    end_came o (rest_of c.args.code.now o.fuel before) (Done before.steps) c.args.team.now (outside_of (g.S.Sink.written c.args.out.now) (g.F.Files.holds c.args.files.now)) (c.in-Halt.ensures.meaning o.fuel before.steps)
+    end_came o (rest_of c.args.code.now o.fuel before) (Done before.steps) c.args.team.now (outside_of (g.S.Sink.written c.args.out.now) (g.F.Files.holds c.args.files.now))
+    (c.in-Halt.ensures.meaning o.fuel before.steps)
     (log_holds c.args.files.now g.F.Files.holds g.F.Files.created g.met.F.Files.created_holds o.log c.requires.created)
 
 pub returns-in-Fault-clause-goes : goal.returns-in-Fault-clause-goes

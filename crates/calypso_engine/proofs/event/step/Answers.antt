@@ -50,7 +50,8 @@ returns-in_err-tell_step-clause-goes g c =
     let now : Outside = outside_of (g.S.Sink.written c.tell_step.new.out) (g.F.Files.holds c.tell_step.new.files) in
     let closed : WasClosed job c.args.total c.args.team.now c.open_step.new.team c.open_step.new.image.memory c.in_ok-closed.closed =
     subst
-    (λ (widths : List ℕ). WasClosed (step_job c.args.code.now o.fuel (s.steps + 1) s.image.memory c.args.first_block widths) c.args.total c.args.team.now c.open_step.new.team c.open_step.new.image.memory c.in_ok-closed.closed)
+    (λ (widths : List ℕ). WasClosed (step_job c.args.code.now o.fuel (s.steps + 1) s.image.memory c.args.first_block widths) c.args.total c.args.team.now c.open_step.new.team
+    c.open_step.new.image.memory c.in_ok-closed.closed)
     (c.as_slice.ensures.value ∙ c.in_ok-widths.ensures) c.in_ok-closed.ensures.closed
     in
     rw p.1
@@ -58,7 +59,8 @@ returns-in_err-tell_step-clause-goes g c =
     s.steps c.requires.may.numbered c.in_ok-closed.closed.result c.open_step.new.image.memory c.keep_words.new.kept closed.left
     (kept_lines o.steps s.image.memory c.open_step.new.image.memory s.kept c.keep_words.new.kept (s.steps + 1) (size_of job) c.requires.may.room c.keep_words.ensures)
     p.0 (λ none. c.in_err-tell_step.ensures.no_memory (ap (λ (e : RunError). Err e) (sym p.2 ∙ none))) c.in_err-tell_step.ensures.out_front
-    (subst (λ (n : ℕ). Told was.files now.files (LogsFront (log_of o) (step_log (record { number = s.steps + 1; size = n; history = c.in_ok-closed.closed.history.items })))) closed.size c.in_err-tell_step.ensures.log_front))
+    (subst (λ (n : ℕ). Told was.files now.files (LogsFront (log_of o) (step_log (record { number = s.steps + 1; size = n; history = c.in_ok-closed.closed.history.items })))) closed.size
+    c.in_err-tell_step.ensures.log_front))
 
 pub returns-in-Ok-clause-goes : goal.returns-in-Ok-clause-goes
 returns-in-Ok-clause-goes g c =
@@ -70,7 +72,8 @@ returns-in-Ok-clause-goes g c =
     let now : Outside = outside_of (g.S.Sink.written c.tell_step.new.out) (g.F.Files.holds c.tell_step.new.files) in
     let closed : WasClosed job c.args.total c.args.team.now c.open_step.new.team later c.in_ok-closed.closed =
     subst
-    (λ (widths : List ℕ). WasClosed (step_job c.args.code.now o.fuel (s.steps + 1) s.image.memory c.args.first_block widths) c.args.total c.args.team.now c.open_step.new.team later c.in_ok-closed.closed)
+    (λ (widths : List ℕ). WasClosed (step_job c.args.code.now o.fuel (s.steps + 1) s.image.memory c.args.first_block widths) c.args.total c.args.team.now c.open_step.new.team later
+    c.in_ok-closed.closed)
     (c.as_slice.ensures.value ∙ c.in_ok-widths.ensures) c.in_ok-closed.ensures.closed
     in
     let is : c.in_ok-closed.closed.result ≡ Ok tt = c.in-Ok.is in
@@ -81,7 +84,8 @@ returns-in-Ok-clause-goes g c =
     c.args.code.now (record { machine = s.machine; image = c.open_step.new.image; kept = c.keep_words.new.kept; steps = s.steps + 1 }) later c.args.team.now c.open_step.new.team refl
     (subst (λ r. IsEnd (meant job) later r) is closed.left)
     (subst (Appends was.out now.out) (ap (λ r. lines_of_end r c.keep_words.new.kept (s.steps + 1) later) is ∙ lines) c.in_ok-tell_step.ensures.out)
-    (subst (λ (n : ℕ). Told was.files now.files (Logs (log_of o) (step_log (record { number = s.steps + 1; size = n; history = c.in_ok-closed.closed.history.items })))) closed.size c.in_ok-tell_step.ensures.log)
+    (subst (λ (n : ℕ). Told was.files now.files (Logs (log_of o) (step_log (record { number = s.steps + 1; size = n; history = c.in_ok-closed.closed.history.items })))) closed.size
+    c.in_ok-tell_step.ensures.log)
     closed.counted
 
 pub returns-clause-goes : goal.returns-clause-goes
@@ -94,7 +98,8 @@ returns-clause-goes g c =
     let now : Outside = outside_of (g.S.Sink.written c.tell_step.new.out) (g.F.Files.holds c.tell_step.new.files) in
     let closed : WasClosed job c.args.total c.args.team.now c.open_step.new.team later c.in_ok-closed.closed =
     subst
-    (λ (widths : List ℕ). WasClosed (step_job c.args.code.now o.fuel (s.steps + 1) s.image.memory c.args.first_block widths) c.args.total c.args.team.now c.open_step.new.team later c.in_ok-closed.closed)
+    (λ (widths : List ℕ). WasClosed (step_job c.args.code.now o.fuel (s.steps + 1) s.image.memory c.args.first_block widths) c.args.total c.args.team.now c.open_step.new.team later
+    c.in_ok-closed.closed)
     (c.as_slice.ensures.value ∙ c.in_ok-widths.ensures) c.in_ok-closed.ensures.closed
     in
     let is : c.in_ok-closed.closed.result ≡ Err c.in-Err.fault = c.in-Err.is in
@@ -102,7 +107,8 @@ returns-clause-goes g c =
     c.in-Err.fault c.args.team.now c.open_step.new.team
     (subst (λ r. IsEnd (meant job) later r) is closed.left)
     (subst (Appends was.out now.out) (ap (λ r. lines_of_end r c.keep_words.new.kept (s.steps + 1) later) is) c.in_ok-tell_step.ensures.out)
-    (subst (λ (n : ℕ). Told was.files now.files (Logs (log_of o) (step_log (record { number = s.steps + 1; size = n; history = c.in_ok-closed.closed.history.items })))) closed.size c.in_ok-tell_step.ensures.log)
+    (subst (λ (n : ℕ). Told was.files now.files (Logs (log_of o) (step_log (record { number = s.steps + 1; size = n; history = c.in_ok-closed.closed.history.items })))) closed.size
+    c.in_ok-tell_step.ensures.log)
     closed.counted
 
 pub returns-in-Ok-clause-tallies : goal.returns-in-Ok-clause-tallies

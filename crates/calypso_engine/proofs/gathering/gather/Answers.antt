@@ -26,7 +26,8 @@ returns g c =
     let after = c.work_all-shares.new.workers.items in
     let lates : sum_by late before ≤ 32 = share_held (sum_by late before) (length before) (late_few before) c.requires.few in
     let few =
-    share_few (size_of g.N.JobName.job) s.claims s.arrivals s.held z.claims z.arrivals z.held (total (λ t. t.claims) before) (total (λ t. t.claims) after) (sum_by late before) w.claims (ap (λ (x : Amounts). x.claims) fresh) w.few
+    share_few (size_of g.N.JobName.job) s.claims s.arrivals s.held z.claims z.arrivals z.held (total (λ t. t.claims) before) (total (λ t. t.claims) after) (sum_by late before) w.claims
+    (ap (λ (x : Amounts). x.claims) fresh) w.few
     (ap (λ (x : Amounts). x.arrivals) fresh) u.few w.held (ap (λ (x : Amounts). x.held) fresh) lates
     in
     record {
@@ -35,7 +36,8 @@ returns g c =
       claims = share_claims _ s.claims z.claims (total (λ t. t.claims) before) (total (λ t. t.claims) after) u.claims w.claims (ap (λ (x : Amounts). x.claims) fresh);
       arrivals =
           share_arrivals _ s.arrivals z.arrivals (total (λ t. t.lost) after + total (λ t. t.held) after) (total (λ t. t.executed) before + total (λ t. t.repeated) before)
-          (total (λ t. t.executed) after + total (λ t. t.repeated) after) (total (λ t. t.lost) before + total (λ t. t.held) before) (current_is c.unwrap.result ∙ (u.arrivals few).1) w.arrivals (ap (λ (x : Amounts). x.arrivals) fresh);
+          (total (λ t. t.executed) after + total (λ t. t.repeated) after) (total (λ t. t.lost) before + total (λ t. t.held) before) (current_is c.unwrap.result ∙ (u.arrivals few).1) w.arrivals
+          (ap (λ (x : Amounts). x.arrivals) fresh);
       waits = λ on. u.ends (share_ends s.ends z.ends (sum_by ends after) w.ends (ap (λ (x : Amounts). x.ends) fresh) on);
       each = w.each;
     }

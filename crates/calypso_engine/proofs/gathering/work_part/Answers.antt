@@ -17,4 +17,5 @@ returns-then-n-eq0 g c =
       | then-n-eq0-via-else-n-eq0+then-is_empty w ↦ let none : length ws ≡ 0 = search rules in inr none
     ] in
     subst (λ (h : History). Gathered g.N.JobName.job job.image.now job.code.now h ws ws) (sym c.requires.empty)
-    (none_gathered g.N.JobName.job job.image.now job.code.now ws nobody (members_left c.args.options.now.script.now job.code.now c.args.steps g.N.JobName.job.number job.image.now c.requires.number ws c.requires.members))
+    (none_gathered g.N.JobName.job job.image.now job.code.now ws nobody (members_left c.args.options.now.script.now job.code.now c.args.steps g.N.JobName.job.number job.image.now c.requires.number ws
+    c.requires.members))

@@ -19,11 +19,13 @@ use Rattle.calypso_engine.proofs.step.named_step.Goals as goal
 
 pub make-requires-clause-size : goal.make-requires-clause-size
 make-requires-clause-size g c =
-    sym c.requires.all ∙ sym (ap size_of c.requires.named ∙ size_is c.args.code.now c.args.options.now.fuel (c.args.steps + 1) c.args.image.now.memory c.args.first_block c.args.widths.now c.requires.there)
+    sym c.requires.all ∙ sym (ap size_of c.requires.named ∙ size_is c.args.code.now c.args.options.now.fuel (c.args.steps + 1) c.args.image.now.memory c.args.first_block c.args.widths.now
+    c.requires.there)
 
 pub work_part-core-requires-clause-size : goal.work_part-core-requires-clause-size
 work_part-core-requires-clause-size g c κs within =
-    sym c.requires.all ∙ sym (ap size_of c.requires.named ∙ size_is c.args.code.now c.args.options.now.fuel (c.args.steps + 1) c.args.image.now.memory c.args.first_block c.args.widths.now c.requires.there)
+    sym c.requires.all ∙ sym (ap size_of c.requires.named ∙ size_is c.args.code.now c.args.options.now.fuel (c.args.steps + 1) c.args.image.now.memory c.args.first_block c.args.widths.now
+    c.requires.there)
 
 pub work_part-core-requires-clause-few : goal.work_part-core-requires-clause-few
 work_part-core-requires-clause-few g c κs within = team_few c.args.options.now.workers c.args.team.now.workers.items c.requires.team.numbers c.requires.workers
@@ -63,12 +65,14 @@ returns-clause-team g c =
     in
     let size = ap size_of c.requires.named ∙ size_is m c.args.options.now.fuel (c.args.steps + 1) c.args.image.now.memory c.args.first_block c.args.widths.now c.requires.there in
     record {
-      members = members_later rows m (c.args.steps + 1) c.args.image.now c.close.new.image c.close.ensures.later after (members_after rows m c.args.steps g.N.JobName.job.number c.args.image.now number before after c.requires.team.members each);
+      members = members_later rows m (c.args.steps + 1) c.args.image.now c.close.new.image c.close.ensures.later after
+          (members_after rows m c.args.steps g.N.JobName.job.number c.args.image.now number before after c.requires.team.members each);
       numbers = numbers_after g.N.JobName.job.number c.args.image.now m before after each ∙ c.requires.team.numbers;
       caller = ap (λ (t : WorkerTally). t.who) c.finish.ensures.tally ∙ c.requires.team.caller;
       may =
           may_work_later c.finish.new.worker c.args.image.now c.close.new.image m
-          (subst (λ (image : Paged). MayWork c.finish.new.worker image m) c.of-job.ensures.image (subst (λ (code : Module). MayWork c.finish.new.worker c.of-job.result.image.now code) c.of-job.ensures.code c.finish.ensures.may))
+          (subst (λ (image : Paged). MayWork c.finish.new.worker image m) c.of-job.ensures.image
+          (subst (λ (code : Module). MayWork c.finish.new.worker c.of-job.result.image.now code) c.of-job.ensures.code c.finish.ensures.may))
           c.close.ensures.later;
       claims = omega (arith, ap (λ (t : WorkerTally). t.claims) c.finish.ensures.tally, c.requires.team.claims, c.finish.ensures.few, size, c.requires.all, c.requires.few);
     }

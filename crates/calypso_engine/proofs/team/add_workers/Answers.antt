@@ -6,7 +6,8 @@ use Rattle.calypso_engine.proofs.team.add_workers.Goals as goal
 
 pub loop-who-init : goal.loop-who-init
 loop-who-init c = record {
-  begun = subst (λ (ws : List WorkerState). AreBegun c.args.options.now.script.now 0 c.args.image.now c.args.code.now ws) (sym c.requires.none) (begun_none c.args.options.now.script.now c.args.image.now c.args.code.now);
+  begun = subst (λ (ws : List WorkerState). AreBegun c.args.options.now.script.now 0 c.args.image.now c.args.code.now ws) (sym c.requires.none)
+      (begun_none c.args.options.now.script.now c.args.image.now c.args.code.now);
   len = c.requires.empty;
   room = refl;
 }

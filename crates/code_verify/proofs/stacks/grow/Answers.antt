@@ -21,11 +21,15 @@ set-requires c =
 pub returns-clause-tree : goal.returns-clause-tree
 returns-clause-tree c =
     let added : Node = record { top = Some c.args.kind; below = c.args.at; height = c.args.node.height + 1; ints = 0; truths = 0 } in
-    let is : c.set.new.self ≡ slice_set (c.args.nodes.now ++ added ∷ []) c.args.at (linked c.args.node c.args.kind (length c.args.nodes.now)) = c.set.ensures ∙ ap (λ (l : List Node). slice_set l c.args.at c.linked.result) c.in_ok-push.ensures.ok ∙ ap (slice_set (c.args.nodes.now ++ added ∷ []) c.args.at) (c.linked.ensures ∙ ap (linked c.args.node c.args.kind) c.len-place.ensures) in
+    let is : c.set.new.self ≡ slice_set (c.args.nodes.now ++ added ∷ []) c.args.at (linked c.args.node c.args.kind (length c.args.nodes.now)) = c.set.ensures
+    ∙ ap (λ (l : List Node). slice_set l c.args.at c.linked.result) c.in_ok-push.ensures.ok
+    ∙ ap (slice_set (c.args.nodes.now ++ added ∷ []) c.args.at) (c.linked.ensures ∙ ap (linked c.args.node c.args.kind) c.len-place.ensures) in
     subst (λ (l : List Node). IsTree l) (sym is) (grown_tree c.args.nodes.now c.requires.tree c.args.at c.args.node c.requires.there c.args.kind c.requires.none)
 
 pub returns-clause-stacks : goal.returns-clause-stacks
 returns-clause-stacks c =
     let added : Node = record { top = Some c.args.kind; below = c.args.at; height = c.args.node.height + 1; ints = 0; truths = 0 } in
-    let is : c.set.new.self ≡ slice_set (c.args.nodes.now ++ added ∷ []) c.args.at (linked c.args.node c.args.kind (length c.args.nodes.now)) = c.set.ensures ∙ ap (λ (l : List Node). slice_set l c.args.at c.linked.result) c.in_ok-push.ensures.ok ∙ ap (slice_set (c.args.nodes.now ++ added ∷ []) c.args.at) (c.linked.ensures ∙ ap (linked c.args.node c.args.kind) c.len-place.ensures) in
+    let is : c.set.new.self ≡ slice_set (c.args.nodes.now ++ added ∷ []) c.args.at (linked c.args.node c.args.kind (length c.args.nodes.now)) = c.set.ensures
+    ∙ ap (λ (l : List Node). slice_set l c.args.at c.linked.result) c.in_ok-push.ensures.ok
+    ∙ ap (slice_set (c.args.nodes.now ++ added ∷ []) c.args.at) (c.linked.ensures ∙ ap (linked c.args.node c.args.kind) c.len-place.ensures) in
     ap stacks_of is ∙ grown_stacks c.args.nodes.now c.requires.tree c.args.at c.args.node c.requires.there c.args.kind c.requires.none

@@ -16,4 +16,5 @@ loop-function-preserved c =
     }
 
 pub returns : goal.returns
-returns c = all_told c.args.m.now c.loop-function.uses c.loop-function.invariant.within (ap (slice_get c.args.m.now.functions) (sym c.len.ensures) ∙ sym c.in_default.ensures.value) c.loop-function.invariant.tells
+returns c = all_told c.args.m.now c.loop-function.uses c.loop-function.invariant.within (ap (slice_get c.args.m.now.functions) (sym c.len.ensures) ∙ sym c.in_default.ensures.value)
+    c.loop-function.invariant.tells

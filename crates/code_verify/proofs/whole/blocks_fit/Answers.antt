@@ -7,8 +7,10 @@ use Rattle.code_verify.proofs.whole.blocks_fit.Goals as goal
 
 pub loop-block-preserved : goal.loop-block-preserved
 loop-block-preserved c =
-    let at : slice_get c.args.m.now.blocks c.loop-block.block-index ≡ Some c.block-item.result = ap (λ (l : List Code). slice_get l c.loop-block.block-index) (sym c.as_slice-block-items.ensures) ∙ entry_there c.as_slice-block-items.result.now c.loop-block.block-index c.block-item.result c.loop-block-test.true c.block-item.is in
-    each_next (λ b d. IsQuietBlock c.args.m.now c.args.uses.now d) c.args.m.now.blocks c.loop-block.block-index c.block-item.result c.loop-block.invariant at (c.in_ok-is_quiet_block.ensures.0 c.if-not-branch.false)
+    let at : slice_get c.args.m.now.blocks c.loop-block.block-index ≡ Some c.block-item.result = ap (λ (l : List Code). slice_get l c.loop-block.block-index) (sym c.as_slice-block-items.ensures)
+    ∙ entry_there c.as_slice-block-items.result.now c.loop-block.block-index c.block-item.result c.loop-block-test.true c.block-item.is in
+    each_next (λ b d. IsQuietBlock c.args.m.now c.args.uses.now d) c.args.m.now.blocks c.loop-block.block-index c.block-item.result c.loop-block.invariant at
+    (c.in_ok-is_quiet_block.ensures.0 c.if-not-branch.false)
 
 pub returns : goal.returns
 returns c =

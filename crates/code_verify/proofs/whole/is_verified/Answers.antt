@@ -13,5 +13,6 @@ uses_of-requires-clause-backwards c = calls_backwards c.args.m.now (c.in_ok-func
 pub returns : goal.returns
 returns c =
     answers_so c.blocks_fit.result (Each (λ b d. IsQuietBlock c.args.m.now c.in_ok-uses.uses d) c.args.m.now.blocks) (IsVerified c.args.m.now)
-    (verified_by c.args.m.now c.in_ok-uses.uses c.in_ok-uses.ensures (c.if-not-has_parts.ensures.0 refl) (c.in_ok-functions_fit.ensures.0 c.if-not-branch.false) (c.in_ok-is_code.ensures.0 c.if-not-branch-2.false))
+    (verified_by c.args.m.now c.in_ok-uses.uses c.in_ok-uses.ensures (c.if-not-has_parts.ensures.0 refl) (c.in_ok-functions_fit.ensures.0 c.if-not-branch.false)
+    (c.in_ok-is_code.ensures.0 c.if-not-branch-2.false))
     c.blocks_fit.ensures

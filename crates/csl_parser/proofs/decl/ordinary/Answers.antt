@@ -39,5 +39,6 @@ returns-in_err-rest-clause-answer c =
 pub returns-clause-answer : goal.returns-clause-answer
 returns-clause-answer c =
     rw (c.in_ok-copy_of.ensures, c.new.ensures) (
-    (passes_through (d.scalar_next c.in_ok-name.name.now _ _ _ c.front.ensures (λ h. cc (c.if-is_mark.ensures.1 h))) (then_passes d.int_name c.args.tokens.now _ _ c.in_ok-name.ensures.answer)).found _ _
+    (passes_through (d.scalar_next c.in_ok-name.name.now _ _ _ c.front.ensures (λ h. cc (c.if-is_mark.ensures.1 h))) (then_passes d.int_name c.args.tokens.now _ _ c.in_ok-name.ensures.answer)).found _
+    _
     (then_found (d.end_follows (scalar_of c.in_ok-name.name.now)) _ _ _ _ _ (tok_found c.in_ok-rest.ensures.answer) (ret_found _ stops_anywhere _ tt c.in_ok-rest.ensures.answer.ended)))

@@ -29,19 +29,22 @@ pub more-init : goal.more-init
 more-init c = record {
   ended = c.in_ok-v.ensures.answer.ended;
   shorter = omega (arith, c.in_ok-v.ensures.shorter);
-  passes = rw (c.in_ok-push.ensures.ok ∙ ap (λ (x : List Valued). x ++ c.in_ok-v.v ∷ []) c.new-values.ensures) (d.values_begun c.args.tokens.now _ _ (begins_other _ c.args.tokens.now _ _ c.front.ensures (λ h. cc (c.if-is_mark.ensures.1 h))) c.in_ok-v.ensures.answer);
+  passes = rw (c.in_ok-push.ensures.ok ∙ ap (λ (x : List Valued). x ++ c.in_ok-v.v ∷ []) c.new-values.ensures)
+      (d.values_begun c.args.tokens.now _ _ (begins_other _ c.args.tokens.now _ _ c.front.ensures (λ h. cc (c.if-is_mark.ensures.1 h))) c.in_ok-v.ensures.answer);
 }
 
 pub returns-in_err-v-2-clause-answer : goal.returns-in_err-v-2-clause-answer
 returns-in_err-v-2-clause-answer c =
     let p = err_from_is_err_and c.from_residual-in_err-v-2.result c.from_residual-in_err-v-2.ensures.1 in
-    rw (p.1, p.2) (passed_error _ _ stops_anywhere _ c.args.tokens.now _ c.more.invariant.passes (d.values_more_err c.more.values c.more.rest.now c.in-Some.ensures.0 _ _ c.more.invariant.ended c.in-Some.ensures.1.0 c.in-Some.ensures.1.1 c.in_err-v-2.ensures.answer))
+    rw (p.1, p.2) (passed_error _ _ stops_anywhere _ c.args.tokens.now _ c.more.invariant.passes
+    (d.values_more_err c.more.values c.more.rest.now c.in-Some.ensures.0 _ _ c.more.invariant.ended c.in-Some.ensures.1.0 c.in-Some.ensures.1.1 c.in_err-v-2.ensures.answer))
 
 pub more-preserved : goal.more-preserved
 more-preserved c = record {
   ended = c.in_ok-v-2.ensures.answer.ended;
   shorter = omega (arith, c.in_ok-v-2.ensures.shorter, c.more.invariant.shorter, ap (λ (x : List Token). length x) c.in-Some.ensures.1.0);
-  passes = rw c.in_ok-push-2.ensures.ok (passes_through (d.values_more c.more.values c.more.rest.now c.in-Some.ensures.0 _ _ _ c.more.invariant.ended c.in-Some.ensures.1.0 c.in-Some.ensures.1.1 c.in_ok-v-2.ensures.answer) c.more.invariant.passes);
+  passes = rw c.in_ok-push-2.ensures.ok (passes_through (d.values_more c.more.values c.more.rest.now c.in-Some.ensures.0 _ _ _ c.more.invariant.ended c.in-Some.ensures.1.0 c.in-Some.ensures.1.1
+      c.in_ok-v-2.ensures.answer) c.more.invariant.passes);
 }
 
 pub returns-in_err-rest-clause-answer : goal.returns-in_err-rest-clause-answer

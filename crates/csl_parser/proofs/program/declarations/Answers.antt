@@ -26,5 +26,6 @@ returns-in_err-one c =
 pub more-preserved : goal.more-preserved
 more-preserved c = record {
   ended = c.in_ok-one.ensures.answer.ended;
-  passes = rw c.in_ok-push.ensures.ok (passes_through (d.shared_more c.more.declared c.more.rest.now _ _ (begins_other _ c.more.rest.now _ _ c.front.ensures (λ h. cc (c.if-is_mark.ensures.1 h))) c.in_ok-one.ensures.answer) c.more.invariant.passes);
+  passes = rw c.in_ok-push.ensures.ok (passes_through (d.shared_more c.more.declared c.more.rest.now _ _ (begins_other _ c.more.rest.now _ _ c.front.ensures (λ h. cc (c.if-is_mark.ensures.1 h)))
+      c.in_ok-one.ensures.answer) c.more.invariant.passes);
 }

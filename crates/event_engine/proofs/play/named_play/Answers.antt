@@ -18,7 +18,8 @@ use Rattle.event_engine.proofs.play.named_play.Goals as goal
 
 pub make-requires-clause-size : goal.make-requires-clause-size
 make-requires-clause-size g c =
-    sym c.requires.all ∙ sym (ap size_of c.requires.named ∙ size_is c.args.code.now c.args.options.now.fuel (c.args.steps + 1) c.args.image.now.memory c.args.first_block c.args.widths.now c.requires.there)
+    sym c.requires.all ∙ sym (ap size_of c.requires.named ∙ size_is c.args.code.now c.args.options.now.fuel (c.args.steps + 1) c.args.image.now.memory c.args.first_block c.args.widths.now
+    c.requires.there)
 
 pub turns_of-requires-clause-count : goal.turns_of-requires-clause-count
 turns_of-requires-clause-count g c = team_count c.args.options.now.workers c.args.team.now.workers.items c.requires.team.numbers ∙ c.requires.count
@@ -53,7 +54,8 @@ returns-clause-played g c =
       left = c.close.ensures.end;
       size = sym c.requires.all ∙ sym size;
       goes =
-          whole_step job (modes_in scene.modes) (modes_in c.turns_of.new.modes) (modes_in c.free.new.modes) c.requires.scene.free scene.deliveries.items c.new-fresh.result.items c.turns_of.new.fresh.items c.keep.new.deliveries.items
+          whole_step job (modes_in scene.modes) (modes_in c.turns_of.new.modes) (modes_in c.free.new.modes) c.requires.scene.free scene.deliveries.items c.new-fresh.result.items
+          c.turns_of.new.fresh.items c.keep.new.deliveries.items
           (drop scene.next events) (drop c.in_ok-next.next events) c.in_ok-core.core c.turns_of.new.core c.close.result.history.items c.in_ok-core.ensures c.new-fresh.ensures.items
           (λ after.
           subst
@@ -84,7 +86,8 @@ returns-clause-team g c =
       caller = ap (λ (t : WorkerTally). t.who) c.finish.ensures.tally ∙ c.requires.team.caller;
       may =
           may_work_later c.finish.new.worker c.args.image.now c.close.new.image m
-          (subst (λ (image : Paged). MayWork c.finish.new.worker image m) c.of-job.ensures.image (subst (λ (code : Module). MayWork c.finish.new.worker c.of-job.result.image.now code) c.of-job.ensures.code c.finish.ensures.may))
+          (subst (λ (image : Paged). MayWork c.finish.new.worker image m) c.of-job.ensures.image
+          (subst (λ (code : Module). MayWork c.finish.new.worker c.of-job.result.image.now code) c.of-job.ensures.code c.finish.ensures.may))
           c.close.ensures.later;
       claims = omega (arith, ap (λ (t : WorkerTally). t.claims) c.finish.ensures.tally, c.requires.team.claims, c.finish.ensures.few, size, c.requires.all, c.requires.few);
     }

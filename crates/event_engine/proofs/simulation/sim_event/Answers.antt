@@ -35,7 +35,8 @@ sim_step-requires-clause-may g c =
     let o = c.args.options.now in
     let before = c.args.standing.now in
     let mid : Standing = record { machine = c.run_main.new.self; image = c.run_main.new.image; kept = before.kept; steps = before.steps } in
-    step_may c.args.code.now o before c.args.team.now c.requires.ready mid c.in-Par.first_block (opens_next c.args.code.now o.fuel c.in-Par.first_block before mid (c.in-Par.ensures.meaning o.fuel before.steps))
+    step_may c.args.code.now o before c.args.team.now c.requires.ready mid c.in-Par.first_block
+    (opens_next c.args.code.now o.fuel c.in-Par.first_block before mid (c.in-Par.ensures.meaning o.fuel before.steps))
     c.run_main.ensures.later refl refl
 
 pub returns-in_ok-print-in-Print-clause-goes : goal.returns-in_ok-print-in-Print-clause-goes
@@ -56,7 +57,8 @@ returns-in_ok-print-in-Print-clause-ready g c = λ none.
     let o = c.args.options.now in
     let before = c.args.standing.now in
     let mid : Standing = record { machine = c.run_main.new.self; image = c.run_main.new.image; kept = before.kept; steps = before.steps } in
-    line_ready c.args.code.now o before c.args.team.now c.requires.ready mid (line_of (map (piece_of c.args.code.now) mid.machine.items)) (c.in-Print.ensures.meaning o.fuel before.steps) c.in-Print.ensures.told.may
+    line_ready c.args.code.now o before c.args.team.now c.requires.ready mid (line_of (map (piece_of c.args.code.now) mid.machine.items)) (c.in-Print.ensures.meaning o.fuel before.steps)
+    c.in-Print.ensures.told.may
     c.run_main.ensures.later refl refl
 
 pub returns-in_ok-print-in-Print-clause-falls : goal.returns-in_ok-print-in-Print-clause-falls
@@ -69,7 +71,8 @@ returns-in-Par-clause-goes g c =
     let before = c.args.standing.now in
     let mid : Standing = record { machine = c.run_main.new.self; image = c.run_main.new.image; kept = before.kept; steps = before.steps } in
     subst
-    (λ (r : Main). GoesSo o (resumed r c.args.scene.now c.args.events.now) (resumed (rest_of c.args.code.now o.fuel c.sim_step.new.standing) c.sim_step.new.scene c.args.events.now) (outside_of (g.S.Sink.written c.args.out.now) (g.F.Files.holds c.args.files.now)) (outside_of (g.S.Sink.written c.sim_step.new.out) (g.F.Files.holds c.sim_step.new.files)) c.sim_step.result)
+    (λ (r : Main). GoesSo o (resumed r c.args.scene.now c.args.events.now) (resumed (rest_of c.args.code.now o.fuel c.sim_step.new.standing) c.sim_step.new.scene c.args.events.now)
+    (outside_of (g.S.Sink.written c.args.out.now) (g.F.Files.holds c.args.files.now)) (outside_of (g.S.Sink.written c.sim_step.new.out) (g.F.Files.holds c.sim_step.new.files)) c.sim_step.result)
     (sym (opens_next c.args.code.now o.fuel c.in-Par.first_block before mid (c.in-Par.ensures.meaning o.fuel before.steps))) c.sim_step.ensures.goes
 
 pub returns-in-Par-clause-ready : goal.returns-in-Par-clause-ready
@@ -101,6 +104,7 @@ returns-in-Fault-clause-goes g c =
     let before = c.args.standing.now in
     let scene = c.args.scene.now in
     let events = c.args.events.now in
-    end_told o (resumed (rest_of c.args.code.now o.fuel before) scene events) (MainFault before.steps c.in-Fault.cause) (outside_of (g.S.Sink.written c.args.out.now) (g.F.Files.holds c.args.files.now))
+    end_told o (resumed (rest_of c.args.code.now o.fuel before) scene events) (MainFault before.steps c.in-Fault.cause)
+    (outside_of (g.S.Sink.written c.args.out.now) (g.F.Files.holds c.args.files.now))
     (ap (λ (r : Main). resumed r scene events) (c.in-Fault.ensures.meaning o.fuel before.steps) ∙ resume_end (MainFault before.steps c.in-Fault.cause) _ _ _)
     (log_holds c.args.files.now g.F.Files.holds g.F.Files.created g.met.F.Files.created_holds o.log c.requires.created)

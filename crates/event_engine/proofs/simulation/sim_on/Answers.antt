@@ -14,7 +14,8 @@ events-init g c = record {
   scene = c.requires.scene;
   made = c.requires.created;
   told =
-      part_none c.args.options.now (resumed (rest_of c.args.code.now c.args.options.now.fuel c.args.standing.now) c.args.scene.now c.args.events.now) (outside_of (g.S.Sink.written c.args.out.now) (g.F.Files.holds c.args.files.now))
+      part_none c.args.options.now (resumed (rest_of c.args.code.now c.args.options.now.fuel c.args.standing.now) c.args.scene.now c.args.events.now)
+      (outside_of (g.S.Sink.written c.args.out.now) (g.F.Files.holds c.args.files.now))
       (log_holds c.args.files.now g.F.Files.holds g.F.Files.created g.met.F.Files.created_holds c.args.options.now.log c.requires.created);
   created = λ name was. was;
   files_later = omega arith;

@@ -26,7 +26,8 @@ returns-in_err-widths-clause-goes g c =
     let o = c.args.options.now in
     let p = err_from_is_err_and c.from_residual.result c.from_residual.ensures.1 in
     rw p.1
-    (front_none o (resumed (opening_here c.args.code.now o.fuel c.args.first_block s) c.args.scene.now c.args.events.now) (outside_of (g.S.Sink.written c.args.out.now) (g.F.Files.holds c.args.files.now))
+    (front_none o (resumed (opening_here c.args.code.now o.fuel c.args.first_block s) c.args.scene.now c.args.events.now)
+    (outside_of (g.S.Sink.written c.args.out.now) (g.F.Files.holds c.args.files.now))
     (log_holds c.args.files.now g.F.Files.holds g.F.Files.created g.met.F.Files.created_holds o.log c.requires.created))
 
 pub returns-in_err-closed-clause-goes : goal.returns-in_err-closed-clause-goes
@@ -35,7 +36,8 @@ returns-in_err-closed-clause-goes g c =
     let o = c.args.options.now in
     let p = err_from_is_err_and c.from_residual-in_err-closed.result c.from_residual-in_err-closed.ensures.1 in
     rw p.1
-    (front_none o (resumed (opening_here c.args.code.now o.fuel c.args.first_block s) c.args.scene.now c.args.events.now) (outside_of (g.S.Sink.written c.args.out.now) (g.F.Files.holds c.args.files.now))
+    (front_none o (resumed (opening_here c.args.code.now o.fuel c.args.first_block s) c.args.scene.now c.args.events.now)
+    (outside_of (g.S.Sink.written c.args.out.now) (g.F.Files.holds c.args.files.now))
     (log_holds c.args.files.now g.F.Files.holds g.F.Files.created g.met.F.Files.created_holds o.log c.requires.created))
 
 pub returns-in_err-tell_step-clause-goes : goal.returns-in_err-tell_step-clause-goes
@@ -48,7 +50,8 @@ returns-in_err-tell_step-clause-goes g c =
     let now : Outside = outside_of (g.S.Sink.written c.tell_step.new.out) (g.F.Files.holds c.tell_step.new.files) in
     let played : WasPlayed job c.args.total c.args.events.now c.args.scene.now c.play_step.new.scene c.play_step.new.image.memory c.in_ok-closed.closed =
     subst
-    (λ (widths : List ℕ). WasPlayed (step_job c.args.code.now o.fuel (s.steps + 1) s.image.memory c.args.first_block widths) c.args.total c.args.events.now c.args.scene.now c.play_step.new.scene c.play_step.new.image.memory c.in_ok-closed.closed)
+    (λ (widths : List ℕ). WasPlayed (step_job c.args.code.now o.fuel (s.steps + 1) s.image.memory c.args.first_block widths) c.args.total c.args.events.now c.args.scene.now c.play_step.new.scene
+    c.play_step.new.image.memory c.in_ok-closed.closed)
     (c.as_slice.ensures.value ∙ c.in_ok-widths.ensures) c.in_ok-closed.ensures.played
     in
     rw p.1
@@ -58,7 +61,8 @@ returns-in_err-tell_step-clause-goes g c =
     c.in_ok-closed.closed.result c.play_step.new.image.memory c.keep_words.new.kept played.left
     (kept_lines o.steps s.image.memory c.play_step.new.image.memory s.kept c.keep_words.new.kept (s.steps + 1) (size_of job) c.requires.may.room c.keep_words.ensures)
     c.in_err-tell_step.ensures.out_front
-    (subst (λ (n : ℕ). Told was.files now.files (LogsFront (log_of o) (step_log (record { number = s.steps + 1; size = n; history = c.in_ok-closed.closed.history.items })))) played.size c.in_err-tell_step.ensures.log_front))
+    (subst (λ (n : ℕ). Told was.files now.files (LogsFront (log_of o) (step_log (record { number = s.steps + 1; size = n; history = c.in_ok-closed.closed.history.items })))) played.size
+    c.in_err-tell_step.ensures.log_front))
 
 pub returns-in-Ok-clause-goes : goal.returns-in-Ok-clause-goes
 returns-in-Ok-clause-goes g c =
@@ -70,7 +74,8 @@ returns-in-Ok-clause-goes g c =
     let now : Outside = outside_of (g.S.Sink.written c.tell_step.new.out) (g.F.Files.holds c.tell_step.new.files) in
     let played : WasPlayed job c.args.total c.args.events.now c.args.scene.now c.play_step.new.scene later c.in_ok-closed.closed =
     subst
-    (λ (widths : List ℕ). WasPlayed (step_job c.args.code.now o.fuel (s.steps + 1) s.image.memory c.args.first_block widths) c.args.total c.args.events.now c.args.scene.now c.play_step.new.scene later c.in_ok-closed.closed)
+    (λ (widths : List ℕ). WasPlayed (step_job c.args.code.now o.fuel (s.steps + 1) s.image.memory c.args.first_block widths) c.args.total c.args.events.now c.args.scene.now c.play_step.new.scene later
+    c.in_ok-closed.closed)
     (c.as_slice.ensures.value ∙ c.in_ok-widths.ensures) c.in_ok-closed.ensures.played
     in
     let is : c.in_ok-closed.closed.result ≡ Ok tt = c.in-Ok.is in
@@ -82,7 +87,8 @@ returns-in-Ok-clause-goes g c =
     (played.goes (λ later. main_of c.args.code.now o.fuel (s.steps + 1) (main_state c.args.code.now s.machine later))) was now later
     (subst (λ r. IsEnd (meant job) later r) is played.left)
     (subst (Appends was.out now.out) (ap (λ r. lines_of_end r c.keep_words.new.kept (s.steps + 1) later) is ∙ lines) c.in_ok-tell_step.ensures.out)
-    (subst (λ (n : ℕ). Told was.files now.files (Logs (log_of o) (step_log (record { number = s.steps + 1; size = n; history = c.in_ok-closed.closed.history.items })))) played.size c.in_ok-tell_step.ensures.log)
+    (subst (λ (n : ℕ). Told was.files now.files (Logs (log_of o) (step_log (record { number = s.steps + 1; size = n; history = c.in_ok-closed.closed.history.items })))) played.size
+    c.in_ok-tell_step.ensures.log)
 
 pub returns-clause-goes : goal.returns-clause-goes
 returns-clause-goes g c =
@@ -94,7 +100,8 @@ returns-clause-goes g c =
     let now : Outside = outside_of (g.S.Sink.written c.tell_step.new.out) (g.F.Files.holds c.tell_step.new.files) in
     let played : WasPlayed job c.args.total c.args.events.now c.args.scene.now c.play_step.new.scene later c.in_ok-closed.closed =
     subst
-    (λ (widths : List ℕ). WasPlayed (step_job c.args.code.now o.fuel (s.steps + 1) s.image.memory c.args.first_block widths) c.args.total c.args.events.now c.args.scene.now c.play_step.new.scene later c.in_ok-closed.closed)
+    (λ (widths : List ℕ). WasPlayed (step_job c.args.code.now o.fuel (s.steps + 1) s.image.memory c.args.first_block widths) c.args.total c.args.events.now c.args.scene.now c.play_step.new.scene later
+    c.in_ok-closed.closed)
     (c.as_slice.ensures.value ∙ c.in_ok-widths.ensures) c.in_ok-closed.ensures.played
     in
     let is : c.in_ok-closed.closed.result ≡ Err c.in-Err.fault = c.in-Err.is in
@@ -103,4 +110,5 @@ returns-clause-goes g c =
     (played.goes (λ later. main_of c.args.code.now o.fuel (s.steps + 1) (main_state c.args.code.now s.machine later))) was now c.in-Err.fault
     (subst (λ r. IsEnd (meant job) later r) is played.left)
     (subst (Appends was.out now.out) (ap (λ r. lines_of_end r c.keep_words.new.kept (s.steps + 1) later) is) c.in_ok-tell_step.ensures.out)
-    (subst (λ (n : ℕ). Told was.files now.files (Logs (log_of o) (step_log (record { number = s.steps + 1; size = n; history = c.in_ok-closed.closed.history.items })))) played.size c.in_ok-tell_step.ensures.log)
+    (subst (λ (n : ℕ). Told was.files now.files (Logs (log_of o) (step_log (record { number = s.steps + 1; size = n; history = c.in_ok-closed.closed.history.items })))) played.size
+    c.in_ok-tell_step.ensures.log)

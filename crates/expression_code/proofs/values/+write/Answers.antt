@@ -25,7 +25,8 @@ push_value-returns-in_ok-push_value-in-Binary t c =
     let l = c.args.instrs.now in
     let m = c.push_value-in-Binary.new.instrs in
     let left : m ≡ l ++ code_of c.args.names.now c.args.scope.now.slots c.in-Binary.a (length l) = search rules in
-    let right : OnOk c.push_right.result (c.push_right.new.instrs ≡ m ++ right_code c.in-Binary.op (length m) (size_of c.in-Binary.b) (λ at. code_of c.args.names.now c.args.scope.now.slots c.in-Binary.b at)) = search rules in
+    let right : OnOk c.push_right.result (c.push_right.new.instrs ≡ m ++ right_code c.in-Binary.op (length m) (size_of c.in-Binary.b)
+    (λ at. code_of c.args.names.now c.args.scope.now.slots c.in-Binary.b at)) = search rules in
     rw (code_binary _ _ _ _ _ _ _ c.in-Binary.is)
     (on_ok_weaker c.push_right.result (right_written c.args.names.now c.args.scope.now.slots c.in-Binary.op c.in-Binary.a c.in-Binary.b l m c.push_right.new.instrs left) right)
 
@@ -33,16 +34,22 @@ pub push_value-returns-in-Paren : goal.push_value-returns-in-Paren
 push_value-returns-in-Paren t c = rw (code_paren _ _ _ _ _ c.in-Paren.is) (search rules)
 
 pub push_values-push_value-requires : goal.push_values-push_value-requires
-push_values-push_value-requires t c =
-    (search (rules, the_lemmas),
-    omega (arith, c.requires, c.loop-e.invariant.long, ap sizes_of (next_item c.args.args.now c.loop-e.e-index c.e-item.result (omega arith) c.e-item.is)))
+push_values-push_value-requires t c = (
+  search (rules, the_lemmas),
+  omega (arith, c.requires, c.loop-e.invariant.long, ap sizes_of (next_item c.args.args.now c.loop-e.e-index c.e-item.result (omega arith) c.e-item.is)),
+)
 
 pub push_values-loop-e-preserved : goal.push_values-loop-e-preserved
 push_values-loop-e-preserved t c = record {
-  code = codes_next c.args.names.now c.args.scope.now.slots c.args.args.now c.loop-e.e-index c.e-item.result c.loop-e.instrs c.push_value.new.instrs _ (omega arith) c.e-item.is c.in_ok-push_value.ensures c.loop-e.invariant.code;
+  code = codes_next c.args.names.now c.args.scope.now.slots c.args.args.now c.loop-e.e-index c.e-item.result c.loop-e.instrs c.push_value.new.instrs _ (omega arith) c.e-item.is
+      c.in_ok-push_value.ensures c.loop-e.invariant.code;
   long =
-      omega (arith, c.loop-e.invariant.long, ap sizes_of (next_item c.args.args.now c.loop-e.e-index c.e-item.result (omega arith) c.e-item.is),
-      ends_at c.args.names.now c.args.scope.now.slots c.e-item.result c.loop-e.instrs c.push_value.new.instrs c.in_ok-push_value.ensures);
+      omega (
+        arith,
+        c.loop-e.invariant.long,
+        ap sizes_of (next_item c.args.args.now c.loop-e.e-index c.e-item.result (omega arith) c.e-item.is),
+        ends_at c.args.names.now c.args.scope.now.slots c.e-item.result c.loop-e.instrs c.push_value.new.instrs c.in_ok-push_value.ensures,
+      );
 }
 
 pub push_value-push_value-requires : goal.push_value-push_value-requires
@@ -55,10 +62,17 @@ pub push_value-push_value-requires-in-Paren : goal.push_value-push_value-require
 push_value-push_value-requires-in-Paren t c = (search (rules, the_lemmas), omega (arith, c.requires, size_paren _ _ c.in-Paren.is, ap size_of c.get-in-Paren.ensures))
 
 pub push_value-push_right-requires : goal.push_value-push_right-requires
-push_value-push_right-requires t c =
-    (search (rules, the_lemmas),
-    omega (arith, c.requires, size_binary _ _ _ _ c.in-Binary.is, ap size_of c.get-in-Binary.ensures, ap size_of c.get-in-Binary-2.ensures,
-    ends_at c.args.names.now c.args.scope.now.slots c.get-in-Binary.result.now c.args.instrs.now c.push_value-in-Binary.new.instrs c.in_ok-push_value-in-Binary.ensures))
+push_value-push_right-requires t c = (
+  search (rules, the_lemmas),
+  omega (
+    arith,
+    c.requires,
+    size_binary _ _ _ _ c.in-Binary.is,
+    ap size_of c.get-in-Binary.ensures,
+    ap size_of c.get-in-Binary-2.ensures,
+    ends_at c.args.names.now c.args.scope.now.slots c.get-in-Binary.result.now c.args.instrs.now c.push_value-in-Binary.new.instrs c.in_ok-push_value-in-Binary.ensures,
+  ),
+)
 
 pub push_call-push_values-requires : goal.push_call-push_values-requires
 push_call-push_values-requires t c = (search (rules, the_lemmas), omega (arith, c.requires, size_call c.args.call.now, ap sizes_of c.as_slice.ensures))
@@ -68,18 +82,38 @@ push_read-push_value-requires t c = (search (rules, the_lemmas), omega (arith, c
 
 pub push_and-length_of-no-requires : goal.push_and-length_of-no-requires
 push_and-length_of-no-requires t c =
-    omega (arith, c.requires, c.len.ensures, ap length c.in_ok-push.ensures.ok, length-append c.args.instrs.now (i.Branch 0 ∷ []),
-    ends_at c.args.names.now c.args.scope.now.slots c.args.b.now c.push.new.self c.push_value.new.instrs c.in_ok-push_value.ensures)
+    omega (
+      arith,
+      c.requires,
+      c.len.ensures,
+      ap length c.in_ok-push.ensures.ok,
+      length-append c.args.instrs.now (i.Branch 0 ∷ []),
+      ends_at c.args.names.now c.args.scope.now.slots c.args.b.now c.push.new.self c.push_value.new.instrs c.in_ok-push_value.ensures,
+    )
 
 pub push_and-overflow_add-no : goal.push_and-overflow_add-no
 push_and-overflow_add-no t c =
-    omega (arith, c.requires, c.length_of-no.ensures, c.len.ensures, ap length c.in_ok-push.ensures.ok, length-append c.args.instrs.now (i.Branch 0 ∷ []),
-    ends_at c.args.names.now c.args.scope.now.slots c.args.b.now c.push.new.self c.push_value.new.instrs c.in_ok-push_value.ensures)
+    omega (
+      arith,
+      c.requires,
+      c.length_of-no.ensures,
+      c.len.ensures,
+      ap length c.in_ok-push.ensures.ok,
+      length-append c.args.instrs.now (i.Branch 0 ∷ []),
+      ends_at c.args.names.now c.args.scope.now.slots c.args.b.now c.push.new.self c.push_value.new.instrs c.in_ok-push_value.ensures,
+    )
 
 pub push_and-overflow_add-end : goal.push_and-overflow_add-end
 push_and-overflow_add-end t c =
-    omega (arith, c.requires, c.length_of-no.ensures, c.len.ensures, ap length c.in_ok-push.ensures.ok, length-append c.args.instrs.now (i.Branch 0 ∷ []),
-    ends_at c.args.names.now c.args.scope.now.slots c.args.b.now c.push.new.self c.push_value.new.instrs c.in_ok-push_value.ensures)
+    omega (
+      arith,
+      c.requires,
+      c.length_of-no.ensures,
+      c.len.ensures,
+      ap length c.in_ok-push.ensures.ok,
+      length-append c.args.instrs.now (i.Branch 0 ∷ []),
+      ends_at c.args.names.now c.args.scope.now.slots c.args.b.now c.push.new.self c.push_value.new.instrs c.in_ok-push_value.ensures,
+    )
 
 pub push_and-returns : goal.push_and-returns
 push_and-returns t c =
@@ -91,9 +125,18 @@ push_and-returns t c =
 
 pub push_or-length_of-end-requires : goal.push_or-length_of-end-requires
 push_or-length_of-end-requires t c =
-    omega (arith, c.requires, c.len-2.ensures, ap length c.in_ok-push.ensures.ok, length-append c.args.instrs.now (i.Branch (c.length_of-other.result + 3) ∷ []),
-    ap length c.in_ok-push-2.ensures.ok, length-append c.push.new.self (i.True ∷ []), ap length c.in_ok-push-3.ensures.ok, length-append c.push-2.new.self (i.Jump 0 ∷ []),
-    ends_at c.args.names.now c.args.scope.now.slots c.args.b.now c.push-3.new.self c.push_value.new.instrs c.in_ok-push_value.ensures)
+    omega (
+      arith,
+      c.requires,
+      c.len-2.ensures,
+      ap length c.in_ok-push.ensures.ok,
+      length-append c.args.instrs.now (i.Branch (c.length_of-other.result + 3) ∷ []),
+      ap length c.in_ok-push-2.ensures.ok,
+      length-append c.push.new.self (i.True ∷ []),
+      ap length c.in_ok-push-3.ensures.ok,
+      length-append c.push-2.new.self (i.Jump 0 ∷ []),
+      ends_at c.args.names.now c.args.scope.now.slots c.args.b.now c.push-3.new.self c.push_value.new.instrs c.in_ok-push_value.ensures,
+    )
 
 pub push_or-returns : goal.push_or-returns
 push_or-returns t c =

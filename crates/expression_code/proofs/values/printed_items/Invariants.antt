@@ -7,6 +7,6 @@ use Rattle.expression_code.proofs.values.printed_items.Given as goal
 abbrev pub invariant-loop-item : goal.invariant-loop-item
 invariant-loop-item l = record {
   items : l.printed ++ printed_items l.names l.scope.slots (drop l.item-index l.items) l.index
-    ≡ printed_items l.fn.names l.fn.scope.slots l.fn.items l.fn.text;
+      ≡ printed_items l.fn.names l.fn.scope.slots l.fn.items l.fn.text;
   texts : l.index + length (item_texts (drop l.item-index l.items)) ≡ l.fn.text + length (item_texts l.fn.items);
 }

@@ -11,13 +11,15 @@ push_value-requires c =
 pub loop-item-preserved : goal.loop-item-preserved
 loop-item-preserved c = elim c.match-item.branch [
   | in-Text w ↦ record {
-    code = items_text c.args.names.now c.args.scope.now.slots c.args.items.now c.loop-item.item-index c.item-item.result _ c.loop-item.instrs c.match-item.instrs _ (omega arith) c.item-item.is w.in-Text.is w.instrs-is c.loop-item.invariant.code;
+    code = items_text c.args.names.now c.args.scope.now.slots c.args.items.now c.loop-item.item-index c.item-item.result _ c.loop-item.instrs c.match-item.instrs _ (omega arith) c.item-item.is
+        w.in-Text.is w.instrs-is c.loop-item.invariant.code;
     long =
         let next = items_next_text c.args.items.now c.loop-item.item-index c.item-item.result _ (omega arith) c.item-item.is w.in-Text.is in
         omega (arith, c.loop-item.invariant.long, next, ap length w.instrs-is);
   }
   | in-Value+in_ok-push_value-in-Value w ↦ record {
-    code = items_value c.args.names.now c.args.scope.now.slots c.args.items.now c.loop-item.item-index c.item-item.result _ c.loop-item.instrs c.match-item.instrs _ (omega arith) c.item-item.is w.in-Value.is (w.instrs-is ∙ w.in_ok-push_value-in-Value.ensures) c.loop-item.invariant.code;
+    code = items_value c.args.names.now c.args.scope.now.slots c.args.items.now c.loop-item.item-index c.item-item.result _ c.loop-item.instrs c.match-item.instrs _ (omega arith) c.item-item.is
+        w.in-Value.is (w.instrs-is ∙ w.in_ok-push_value-in-Value.ensures) c.loop-item.invariant.code;
     long =
         let next = items_next_value c.args.items.now c.loop-item.item-index c.item-item.result w.in-Value.e (omega arith) c.item-item.is w.in-Value.is in
         let longer = ends_at c.args.names.now c.args.scope.now.slots w.in-Value.e c.loop-item.instrs c.match-item.instrs (w.instrs-is ∙ w.in_ok-push_value-in-Value.ensures) in

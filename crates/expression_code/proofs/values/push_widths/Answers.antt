@@ -10,8 +10,13 @@ push_value-requires c =
 
 pub loop-block-preserved : goal.loop-block-preserved
 loop-block-preserved c = record {
-  code = widths_next c.args.names.now c.args.scope.now.slots c.args.blocks.now c.loop-block.block-index c.block-item.result c.loop-block.instrs c.push_value.new.instrs _ (omega arith) c.block-item.is c.in_ok-push_value.ensures c.loop-block.invariant.code;
+  code = widths_next c.args.names.now c.args.scope.now.slots c.args.blocks.now c.loop-block.block-index c.block-item.result c.loop-block.instrs c.push_value.new.instrs _ (omega arith) c.block-item.is
+      c.in_ok-push_value.ensures c.loop-block.invariant.code;
   long =
-      omega (arith, c.loop-block.invariant.long, widths_size_next c.args.blocks.now c.loop-block.block-index c.block-item.result (omega arith) c.block-item.is,
-      ends_at c.args.names.now c.args.scope.now.slots (out-RoutineBlock c.block-item.result).width c.loop-block.instrs c.push_value.new.instrs c.in_ok-push_value.ensures);
+      omega (
+        arith,
+        c.loop-block.invariant.long,
+        widths_size_next c.args.blocks.now c.loop-block.block-index c.block-item.result (omega arith) c.block-item.is,
+        ends_at c.args.names.now c.args.scope.now.slots (out-RoutineBlock c.block-item.result).width c.loop-block.instrs c.push_value.new.instrs c.in_ok-push_value.ensures,
+      );
 }

@@ -7,6 +7,6 @@ use Rattle.expression_code.proofs.values.push_widths.Given as goal
 abbrev pub invariant-loop-block : goal.invariant-loop-block
 invariant-loop-block l = record {
   code : l.instrs ++ widths_code l.names l.scope.slots (drop l.block-index l.blocks) (length l.instrs)
-    ≡ l.fn.instrs ++ widths_code l.fn.names l.fn.scope.slots l.fn.blocks (length l.fn.instrs);
+      ≡ l.fn.instrs ++ widths_code l.fn.names l.fn.scope.slots l.fn.blocks (length l.fn.instrs);
   long : length l.instrs + widths_size (drop l.block-index l.blocks) ≡ length l.fn.instrs + widths_size l.fn.blocks;
 }

@@ -9,7 +9,8 @@ use Rattle.csl_grammar.specs.Expressions.{SpellsExpr, level_of, expr, place}
 use Rattle.csl_grammar.specs.Stops.{Stops}
 use Rattle.expression_parser.specs.Reading.{behind}
 use Rattle.expression_parser.proofs.Rules.{paren_rule, indexed_rule, named_found, stops_here}
-use Rattle.expression_parser.proofs.Steps.{operator_kind, level_err, level_ok, chain_err, chain_ok, chain_done, from_first, prefixed_err, prefixed_ok, inside_err, closing_err, closed_ok, called_err, called_ok, number_ok, truth_ok, nothing_here, no_arguments, some_err, some_begun, more_err, more_passes, last_err, last_ok}
+use Rattle.expression_parser.proofs.Steps.{operator_kind, level_err, level_ok, chain_err, chain_ok, chain_done, from_first, prefixed_err, prefixed_ok, inside_err, closing_err, closed_ok, called_err}
+use Rattle.expression_parser.proofs.Steps.{called_ok, number_ok, truth_ok, nothing_here, no_arguments, some_err, some_begun, more_err, more_passes, last_err, last_ok}
 use Rattle.expression_parser.proofs.Single.{ended_behind}
 use mir.Val.{SFits}
 use mir.Syntax.{w64}
@@ -19,7 +20,8 @@ use Rattle.expression_parser.proofs.expr.+expr.Goals.{chain-in_default-via-in-So
 
 pub arguments-returns-then-is_mark-clause-answer : goal.arguments-returns-then-is_mark-clause-answer
 arguments-returns-then-is_mark-clause-answer t c =
-    no_arguments c.args.tokens.now _ _ _ c.new-args.ensures c.front.ensures (c.if-is_mark.ensures.0 refl) (ended_behind c.args.tokens.now _ _ c.requires c.front.ensures (λ h. cc (c.if-is_mark.ensures.0 refl)))
+    no_arguments c.args.tokens.now _ _ _ c.new-args.ensures c.front.ensures (c.if-is_mark.ensures.0 refl)
+    (ended_behind c.args.tokens.now _ _ c.requires c.front.ensures (λ h. cc (c.if-is_mark.ensures.0 refl)))
 
 pub arguments-returns-in_err-e-clause-answer : goal.arguments-returns-in_err-e-clause-answer
 arguments-returns-in_err-e-clause-answer t c =
@@ -31,7 +33,8 @@ arguments-more-init t c =
     record {
       ended = c.in_ok-e.ensures.answer.ended;
       shorter = omega (arith, c.in_ok-e.ensures.shorter);
-      passes = some_begun c.args.tokens.now _ _ c.front.ensures (λ h. cc (c.if-is_mark.ensures.1 h)) _ _ _ (c.in_ok-push.ensures.ok ∙ ap (λ (x : List Expr). x ++ c.in_ok-e.e ∷ []) c.new-args.ensures) c.in_ok-e.ensures.answer;
+      passes = some_begun c.args.tokens.now _ _ c.front.ensures (λ h. cc (c.if-is_mark.ensures.1 h)) _ _ _ (c.in_ok-push.ensures.ok ∙ ap (λ (x : List Expr). x ++ c.in_ok-e.e ∷ []) c.new-args.ensures)
+          c.in_ok-e.ensures.answer;
     }
 
 pub arguments-returns-in_err-e-2-clause-answer : goal.arguments-returns-in_err-e-2-clause-answer
@@ -63,52 +66,65 @@ called-returns-in_err-args-clause-answer t c =
 
 pub called-returns-clause-answer : goal.called-returns-clause-answer
 called-returns-clause-answer t c =
-    called_ok c.args.name.now c.args.first.now c.args.bracket.now c.requires.names c.requires.opens c.args.tokens.now _ _ _ _ _ (cc (c.in_ok-name.ensures)) c.in_ok-args.ensures.answer c.operand_end.ensures.answer
+    called_ok c.args.name.now c.args.first.now c.args.bracket.now c.requires.names c.requires.opens c.args.tokens.now _ _ _ _ _ (cc (c.in_ok-name.ensures)) c.in_ok-args.ensures.answer
+    c.operand_end.ensures.answer
 
 pub chain-returns-in_err-right-in-Some-clause-answer : goal.chain-returns-in_err-right-in-Some-clause-answer
 chain-returns-in_err-right-in-Some-clause-answer t c =
     let p = err_from_is_err_and c.from_residual.result c.from_residual.ensures.1 in
-    rw (p.1, p.2) (chain_err c.args.below c.in-Some.op c.args.left c.args.tokens.now _ _ c.front.ensures (omega (arith, c.looseness.ensures)) (operator_kind _ _ (sym c.in-Some.ensures)) _ c.in_err-right-in-Some.ensures.answer)
+    rw (p.1, p.2) (chain_err c.args.below c.in-Some.op c.args.left c.args.tokens.now _ _ c.front.ensures (omega (arith, c.looseness.ensures)) (operator_kind _ _ (sym c.in-Some.ensures)) _
+    c.in_err-right-in-Some.ensures.answer)
 
 pub chain-returns-in_ok-right-in-Some-2-clause-answer : goal.chain-returns-in_ok-right-in-Some-2-clause-answer
 chain-returns-in_ok-right-in-Some-2-clause-answer t c =
-    chain_ok c.args.below c.in-Some.op c.args.left c.args.tokens.now _ _ c.front.ensures (omega (arith, c.looseness.ensures)) (operator_kind _ _ (sym c.in-Some.ensures)) _ _ _ _ _ (cc (c.in_ok-left-in-Some.ensures, c.in_ok-right-in-Some-2.ensures)) c.in_ok-right-in-Some.ensures.answer c.chain.ensures.answer
+    chain_ok c.args.below c.in-Some.op c.args.left c.args.tokens.now _ _ c.front.ensures (omega (arith, c.looseness.ensures)) (operator_kind _ _ (sym c.in-Some.ensures)) _ _ _ _ _
+    (cc (c.in_ok-left-in-Some.ensures, c.in_ok-right-in-Some-2.ensures)) c.in_ok-right-in-Some.ensures.answer c.chain.ensures.answer
 
 pub chain-returns-in_default-clause-answer : goal.chain-returns-in_default-clause-answer
 chain-returns-in_default-clause-answer t c =
     chain_done c.args.below c.args.left c.args.tokens.now _ _ _ c.front.ensures c.requires.ended c.requires.stopped (sym c.operator.ensures)
     (λ op found here. elim c.in_default.branch [
-      | chain-in_default-via-in-Some+else-looseness-below w ↦ let same : w.in-Some.op ≡ op = cc (w.in-Some.is, found) in let alike : level_of w.in-Some.op ≡ level_of op = ap level_of same in absurd (omega (arith, alike, here, w.looseness.ensures, w.if-looseness-below.false))
+      | chain-in_default-via-in-Some+else-looseness-below w ↦ let same : w.in-Some.op ≡ op = cc (w.in-Some.is, found) in let alike : level_of w.in-Some.op ≡ level_of op = ap level_of same in absurd
+          (omega (arith, alike, here, w.looseness.ensures, w.if-looseness-below.false))
       | chain-in_default-via-in_default w ↦ w.in_default.not-Some op found
     ])
 
 pub indexed-returns-in_err-index-clause-answer : goal.indexed-returns-in_err-index-clause-answer
 indexed-returns-in_err-index-clause-answer t c =
     let p = err_from_is_err_and c.from_residual.result c.from_residual.ensures.1 in
-    rw (p.1, p.2) (inside_err mark.CloseBracket (λ index. expr c.args.first.now.at (node.Read (place c.args.name.now (Some index)))) (behind c.args.bracket.now (behind c.args.first.now (SpellsExpr 0))) (indexed_rule c.args.name.now c.args.first.now c.args.bracket.now c.requires.names c.requires.opens) c.args.tokens.now _ c.in_err-index.ensures.answer)
+    rw (p.1, p.2) (inside_err mark.CloseBracket (λ index. expr c.args.first.now.at (node.Read (place c.args.name.now (Some index))))
+    (behind c.args.bracket.now (behind c.args.first.now (SpellsExpr 0))) (indexed_rule c.args.name.now c.args.first.now c.args.bracket.now c.requires.names c.requires.opens) c.args.tokens.now _
+    c.in_err-index.ensures.answer)
 
 pub indexed-returns-in_err-rest-clause-answer : goal.indexed-returns-in_err-rest-clause-answer
 indexed-returns-in_err-rest-clause-answer t c =
     let p = err_from_is_err_and c.from_residual-in_err-rest.result c.from_residual-in_err-rest.ensures.1 in
-    rw (p.1, p.2) (closing_err mark.CloseBracket (λ index. expr c.args.first.now.at (node.Read (place c.args.name.now (Some index)))) (behind c.args.bracket.now (behind c.args.first.now (SpellsExpr 0))) (indexed_rule c.args.name.now c.args.first.now c.args.bracket.now c.requires.names c.requires.opens) c.args.tokens.now _ _ _ c.in_ok-index.ensures.answer c.in_err-rest.ensures.answer)
+    rw (p.1, p.2) (closing_err mark.CloseBracket (λ index. expr c.args.first.now.at (node.Read (place c.args.name.now (Some index))))
+    (behind c.args.bracket.now (behind c.args.first.now (SpellsExpr 0))) (indexed_rule c.args.name.now c.args.first.now c.args.bracket.now c.requires.names c.requires.opens) c.args.tokens.now _ _
+    _ c.in_ok-index.ensures.answer c.in_err-rest.ensures.answer)
 
 pub indexed-returns-clause-answer : goal.indexed-returns-clause-answer
 indexed-returns-clause-answer t c =
-    closed_ok mark.CloseBracket (λ index. expr c.args.first.now.at (node.Read (place c.args.name.now (Some index)))) (behind c.args.bracket.now (behind c.args.first.now (SpellsExpr 0))) (indexed_rule c.args.name.now c.args.first.now c.args.bracket.now c.requires.names c.requires.opens) c.args.tokens.now _ _ _ _ _ _ _ (cc (c.in_ok-name.ensures, c.in_ok-new.ensures)) c.in_ok-index.ensures.answer c.in_ok-rest.ensures.answer c.operand_end.ensures.answer
+    closed_ok mark.CloseBracket (λ index. expr c.args.first.now.at (node.Read (place c.args.name.now (Some index)))) (behind c.args.bracket.now (behind c.args.first.now (SpellsExpr 0)))
+    (indexed_rule c.args.name.now c.args.first.now c.args.bracket.now c.requires.names c.requires.opens) c.args.tokens.now _ _ _ _ _ _ _ (cc (c.in_ok-name.ensures, c.in_ok-new.ensures))
+    c.in_ok-index.ensures.answer c.in_ok-rest.ensures.answer c.operand_end.ensures.answer
 
 pub parenthesized-returns-in_err-inner-clause-answer : goal.parenthesized-returns-in_err-inner-clause-answer
 parenthesized-returns-in_err-inner-clause-answer t c =
     let p = err_from_is_err_and c.from_residual.result c.from_residual.ensures.1 in
-    rw (p.1, p.2) (inside_err mark.CloseParen (λ inner. expr c.args.first.now.at (node.Paren inner)) (behind c.args.first.now (SpellsExpr 0)) (paren_rule c.args.first.now c.requires.opens) c.args.tokens.now _ c.in_err-inner.ensures.answer)
+    rw (p.1, p.2) (inside_err mark.CloseParen (λ inner. expr c.args.first.now.at (node.Paren inner)) (behind c.args.first.now (SpellsExpr 0)) (paren_rule c.args.first.now c.requires.opens)
+    c.args.tokens.now _ c.in_err-inner.ensures.answer)
 
 pub parenthesized-returns-in_err-rest-clause-answer : goal.parenthesized-returns-in_err-rest-clause-answer
 parenthesized-returns-in_err-rest-clause-answer t c =
     let p = err_from_is_err_and c.from_residual-in_err-rest.result c.from_residual-in_err-rest.ensures.1 in
-    rw (p.1, p.2) (closing_err mark.CloseParen (λ inner. expr c.args.first.now.at (node.Paren inner)) (behind c.args.first.now (SpellsExpr 0)) (paren_rule c.args.first.now c.requires.opens) c.args.tokens.now _ _ _ c.in_ok-inner.ensures.answer c.in_err-rest.ensures.answer)
+    rw (p.1, p.2) (closing_err mark.CloseParen (λ inner. expr c.args.first.now.at (node.Paren inner)) (behind c.args.first.now (SpellsExpr 0)) (paren_rule c.args.first.now c.requires.opens)
+    c.args.tokens.now _ _ _ c.in_ok-inner.ensures.answer c.in_err-rest.ensures.answer)
 
 pub parenthesized-returns-clause-answer : goal.parenthesized-returns-clause-answer
 parenthesized-returns-clause-answer t c =
-    closed_ok mark.CloseParen (λ inner. expr c.args.first.now.at (node.Paren inner)) (behind c.args.first.now (SpellsExpr 0)) (paren_rule c.args.first.now c.requires.opens) c.args.tokens.now _ _ _ _ _ _ _ (cc (c.in_ok-inner-2.ensures)) c.in_ok-inner.ensures.answer c.in_ok-rest.ensures.answer c.operand_end.ensures.answer
+    closed_ok mark.CloseParen (λ inner. expr c.args.first.now.at (node.Paren inner)) (behind c.args.first.now (SpellsExpr 0)) (paren_rule c.args.first.now c.requires.opens) c.args.tokens.now _ _ _ _ _
+    _ _ (cc (c.in_ok-inner-2.ensures)) c.in_ok-inner.ensures.answer c.in_ok-rest.ensures.answer c.operand_end.ensures.answer
 
 pub named-returns-then-is_mark-clause-answer : goal.named-returns-then-is_mark-clause-answer
 named-returns-then-is_mark-clause-answer t c =
@@ -120,7 +136,8 @@ named-returns-then-is_mark-2-clause-answer t c =
 
 pub named-returns-clause-answer : goal.named-returns-clause-answer
 named-returns-clause-answer t c =
-    rw c.in_ok-name.ensures (named_found c.args.name.now c.args.first.now c.args.tokens.now c.requires.names (stops_here c.args.tokens.now _ _ c.front.ensures (λ h. cc (c.if-is_mark.ensures.1 h)) (λ h. cc (c.if-is_mark-2.ensures.1 h))) c.requires.ended)
+    rw c.in_ok-name.ensures (named_found c.args.name.now c.args.first.now c.args.tokens.now c.requires.names
+    (stops_here c.args.tokens.now _ _ c.front.ensures (λ h. cc (c.if-is_mark.ensures.1 h)) (λ h. cc (c.if-is_mark-2.ensures.1 h))) c.requires.ended)
 
 pub operand-returns-in_err-first-clause-answer : goal.operand-returns-in_err-first-clause-answer
 operand-returns-in_err-first-clause-answer t c =

@@ -7,7 +7,8 @@ use Rattle.program_gen.proofs.program.push_steps.Goals as goal
 pub loop-j-preserved : goal.loop-j-preserved
 loop-j-preserved c = (
   omega arith,
-  one_more (step_line c.args.number) 1 c.loop-j.j (c.loop-j.j + 1) (c.loop-j.j + 1) c.args.text.now.items c.loop-j.text.items c.push_step.new.text.items (omega arith) (omega arith) c.loop-j.invariant.1 c.in_ok-push_step.ensures,
+  one_more (step_line c.args.number) 1 c.loop-j.j (c.loop-j.j + 1) (c.loop-j.j + 1) c.args.text.now.items c.loop-j.text.items c.push_step.new.text.items (omega arith) (omega arith)
+      c.loop-j.invariant.1 c.in_ok-push_step.ensures,
 )
 
 pub returns : goal.returns

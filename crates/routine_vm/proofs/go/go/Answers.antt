@@ -6,7 +6,8 @@ use Rattle.routine_vm.proofs.go.go.Goals as goal
 
 pub steps-smaller : goal.steps-smaller
 steps-smaller g c =
-    fewer c.args.m.now c.requires.verified c.steps.run (g.S.Site.store c.steps.words) c.steps.invariant.ready (state_of c.args.m.now c.step.new.run (g.S.Site.store c.step.new.words)) c.in-On.ensures.stepped
+    fewer c.args.m.now c.requires.verified c.steps.run (g.S.Site.store c.steps.words) c.steps.invariant.ready (state_of c.args.m.now c.step.new.run (g.S.Site.store c.step.new.words))
+    c.in-On.ensures.stepped
 
 pub steps-preserved : goal.steps-preserved
 steps-preserved g c =
@@ -23,12 +24,14 @@ steps-preserved g c =
 pub returns-in-Ends-clause-stopped : goal.returns-in-Ends-clause-stopped
 returns-in-Ends-clause-stopped g c =
     let i = c.steps.invariant in
-    i.same ∙ outcome_at c.args.m.now c.requires.verified c.steps.run (g.S.Site.store c.steps.words) i.ready (Ends (g.S.Site.store c.step.new.words) c.step.new.run.fuel) c.in-Ends.ensures.stepped (λ s' e. cc)
+    i.same ∙ outcome_at c.args.m.now c.requires.verified c.steps.run (g.S.Site.store c.steps.words) i.ready (Ends (g.S.Site.store c.step.new.words) c.step.new.run.fuel) c.in-Ends.ensures.stepped
+    (λ s' e. cc)
 
 pub returns-in-Traps-clause-stopped : goal.returns-in-Traps-clause-stopped
 returns-in-Traps-clause-stopped g c =
     let i = c.steps.invariant in
-    i.same ∙ outcome_at c.args.m.now c.requires.verified c.steps.run (g.S.Site.store c.steps.words) i.ready (Traps c.in-Traps.cause (g.S.Site.store c.step.new.words) c.step.new.run.fuel) c.in-Traps.ensures.stepped (λ s' e. cc)
+    i.same ∙ outcome_at c.args.m.now c.requires.verified c.steps.run (g.S.Site.store c.steps.words) i.ready (Traps c.in-Traps.cause (g.S.Site.store c.step.new.words) c.step.new.run.fuel)
+    c.in-Traps.ensures.stepped (λ s' e. cc)
 
 pub returns-in-Event-clause-goes_on : goal.returns-in-Event-clause-goes_on
 returns-in-Event-clause-goes_on g c =

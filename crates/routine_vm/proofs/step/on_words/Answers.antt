@@ -30,20 +30,26 @@ add-requires-clause-word g c =
 pub read-requires-in-Some-clause-word : goal.read-requires-in-Some-clause-word
 read-requires-in-Some-clause-word g c =
     let s = state_of c.args.m.now c.args.run.now (g.S.Site.store c.args.words.now) in
-    may_be_used c.args.m.now s.store c.in-Some.a c.requires.words (item_there c.args.m.now s _ (machine.item_at c.in-Item.b c.in-Item.n c.number-x.result) c.in-Some.a _ (rw (c.in-Item.is, c.number-x.ensures) at c.requires.there) (sym (rw (to_z-of_z w64 c.number-x.result (search rules)) at c.in-Some.ensures)))
+    may_be_used c.args.m.now s.store c.in-Some.a c.requires.words (item_there c.args.m.now s _ (machine.item_at c.in-Item.b c.in-Item.n c.number-x.result) c.in-Some.a _
+    (rw (c.in-Item.is, c.number-x.ensures) at c.requires.there) (sym (rw (to_z-of_z w64 c.number-x.result (search rules)) at c.in-Some.ensures)))
 
 pub write-requires-in-Some-item_at-clause-word : goal.write-requires-in-Some-item_at-clause-word
 write-requires-in-Some-item_at-clause-word g c =
     let s = state_of c.args.m.now c.args.run.now (g.S.Site.store c.args.words.now) in
-    may_be_used c.args.m.now s.store c.in-Some-item_at.a c.requires.words (item_there c.args.m.now s _ (machine.item_at c.in-SetItem.b c.in-SetItem.n c.numbers-x.result.0) c.in-Some-item_at.a _ (rw (c.in-SetItem.is, c.numbers-x.ensures) at c.requires.there) (sym (rw (to_z-of_z w64 c.numbers-x.result.0 (search rules)) at c.in-Some-item_at.ensures)))
+    may_be_used c.args.m.now s.store c.in-Some-item_at.a c.requires.words (item_there c.args.m.now s _ (machine.item_at c.in-SetItem.b c.in-SetItem.n c.numbers-x.result.0) c.in-Some-item_at.a _
+    (rw (c.in-SetItem.is, c.numbers-x.ensures) at c.requires.there) (sym (rw (to_z-of_z w64 c.numbers-x.result.0 (search rules)) at c.in-Some-item_at.ensures)))
 
 pub read-old-requires : goal.read-old-requires
 read-old-requires g c =
     let s = state_of c.args.m.now c.args.run.now (g.S.Site.store c.args.words.now) in
-    may_be_used c.args.m.now s.store c.in-Some-item_at-2.a c.requires.words (item_there c.args.m.now s _ (machine.item_at c.in-AddItem.b c.in-AddItem.n c.numbers-x-in-AddItem.result.0) c.in-Some-item_at-2.a _ (rw (c.in-AddItem.is, c.numbers-x-in-AddItem.ensures) at c.requires.there) (sym (rw (to_z-of_z w64 c.numbers-x-in-AddItem.result.0 (search rules)) at c.in-Some-item_at-2.ensures)))
+    may_be_used c.args.m.now s.store c.in-Some-item_at-2.a c.requires.words (item_there c.args.m.now s _ (machine.item_at c.in-AddItem.b c.in-AddItem.n c.numbers-x-in-AddItem.result.0)
+    c.in-Some-item_at-2.a _ (rw (c.in-AddItem.is, c.numbers-x-in-AddItem.ensures) at c.requires.there)
+    (sym (rw (to_z-of_z w64 c.numbers-x-in-AddItem.result.0 (search rules)) at c.in-Some-item_at-2.ensures)))
 
 pub write-requires-in-Some-item_at-2-clause-word : goal.write-requires-in-Some-item_at-2-clause-word
 write-requires-in-Some-item_at-2-clause-word g c =
     let s = state_of c.args.m.now c.args.run.now (g.S.Site.store c.args.words.now) in
-    let before = may_be_used c.args.m.now s.store c.in-Some-item_at-2.a c.requires.words (item_there c.args.m.now s _ (machine.item_at c.in-AddItem.b c.in-AddItem.n c.numbers-x-in-AddItem.result.0) c.in-Some-item_at-2.a _ (rw (c.in-AddItem.is, c.numbers-x-in-AddItem.ensures) at c.requires.there) (sym (rw (to_z-of_z w64 c.numbers-x-in-AddItem.result.0 (search rules)) at c.in-Some-item_at-2.ensures))) in
+    let before = may_be_used c.args.m.now s.store c.in-Some-item_at-2.a c.requires.words (item_there c.args.m.now s _ (machine.item_at c.in-AddItem.b c.in-AddItem.n c.numbers-x-in-AddItem.result.0)
+    c.in-Some-item_at-2.a _ (rw (c.in-AddItem.is, c.numbers-x-in-AddItem.ensures) at c.requires.there)
+    (sym (rw (to_z-of_z w64 c.numbers-x-in-AddItem.result.0 (search rules)) at c.in-Some-item_at-2.ensures))) in
     subst (λ (t : Store). MayUse t c.in-Some-item_at-2.a) (sym c.read-old.ensures.same) before

@@ -15,10 +15,12 @@ returns-in-Some-clause-steps g c =
     let f = c.in-Some.function.now in
     let found = sym c.in-Some.ensures.value in
     let shape = c.requires.shapes c.in-Call.f f found in
-    rw (c.in-Call.is, found) (call_steps c.args.m.now c.in-Call.f f found shape (g.S.Site.store c.args.words.now) c.args.run.now c.call.new.run c.call.result (rw (c.in-Call.is, found) at c.requires.there) c.call.ensures.calls)
+    rw (c.in-Call.is, found) (call_steps c.args.m.now c.in-Call.f f found shape (g.S.Site.store c.args.words.now) c.args.run.now c.call.new.run c.call.result
+    (rw (c.in-Call.is, found) at c.requires.there) c.call.ensures.calls)
 
 pub returns-in-Some-clause-bodies : goal.returns-in-Some-clause-bodies
-returns-in-Some-clause-bodies g c = λ bottom above. c.call.ensures.bodies c.args.m.now bottom (slice_get_within c.args.m.now.functions c.in-Call.f c.in-Some.function.now (sym c.in-Some.ensures.value)) above
+returns-in-Some-clause-bodies g c = λ bottom above. c.call.ensures.bodies c.args.m.now bottom (slice_get_within c.args.m.now.functions c.in-Call.f c.in-Some.function.now (sym c.in-Some.ensures.value))
+    above
 
 pub returns-in-Return-clause-bodies : goal.returns-in-Return-clause-bodies
 returns-in-Return-clause-bodies g c = λ bottom above. c.leave.ensures.bodies c.args.m.now bottom above

@@ -28,7 +28,8 @@ loop-item-preserved c =
     in
     record {
       there = more_there (p ∷ []) (pieces m others c.take_item.new.operands) (subst (λ (o : Option _). IsSome o) e i.there);
-      behind = rw c.put.ensures (i.behind ∙ ap (λ (o : Option _). with_more (map (piece_of m) c.loop-item.items) o) e ∙ more_more p (map (piece_of m) c.loop-item.items) (pieces m others c.take_item.new.operands));
+      behind = rw c.put.ensures (i.behind ∙ ap (λ (o : Option _). with_more (map (piece_of m) c.loop-item.items) o) e
+          ∙ more_more p (map (piece_of m) c.loop-item.items) (pieces m others c.take_item.new.operands));
       done = (
         c.in-Some.item.now ∷ i.done.0,
         i.done.1 ∙ ap (λ (l : List PrintItem). l ++ i.done.0) c.in-Some.ensures.cases.0 ∙ append_assoc others (c.in-Some.item.now ∷ []) i.done.0,

@@ -19,7 +19,8 @@ returns-in-None-clause-widths c =
     let y = some_of (many_numbers left c.number.new.self) there in
     let bad : WidthBeside c.loop.total z None = rw (to_z-of_z w64 z (search rules)) at c.in-None.ensures in (
       (y.0.0 ++ z ∷ map pos c.loop.widths, y.0.1),
-      i.behind ∙ ap (λ (o : Option _). with_more (map pos c.loop.widths) o) e ∙ more_more z (map pos c.loop.widths) (many_numbers left c.number.new.self) ∙ ap (λ (o : Option _). with_more (z ∷ map pos c.loop.widths) o) y.1,
+      i.behind ∙ ap (λ (o : Option _). with_more (map pos c.loop.widths) o) e ∙ more_more z (map pos c.loop.widths) (many_numbers left c.number.new.self)
+          ∙ ap (λ (o : Option _). with_more (z ∷ map pos c.loop.widths) o) y.1,
       bad_widths y.0.0 z c.loop.widths (subst (λ (n : ℕ). WidthBeside n z None) i.total bad),
     )
 

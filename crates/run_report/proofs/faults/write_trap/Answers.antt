@@ -8,11 +8,15 @@ use Rattle.run_report.proofs.faults.write_trap.Goals as goal
 pub returns-clause-ok : goal.returns-clause-ok
 returns-clause-ok g c =
     on_ok c.write_pieces.result
-    (subst (Appends (g.S.Sink.written c.args.sink.now) (g.S.Sink.written c.write_pieces.new.sink)) (trap_line c.args.step c.args.routine c.args.cause _ _ _ (c.as_bytes.ensures.value ∙ c.format.ensures.text) (c.as_bytes-2.ensures.value ∙ c.format-2.ensures.text) (c.as_bytes-3.ensures.value ∙ c.cause_text.ensures)))
+    (subst (Appends (g.S.Sink.written c.args.sink.now) (g.S.Sink.written c.write_pieces.new.sink))
+    (trap_line c.args.step c.args.routine c.args.cause _ _ _ (c.as_bytes.ensures.value ∙ c.format.ensures.text) (c.as_bytes-2.ensures.value ∙ c.format-2.ensures.text)
+    (c.as_bytes-3.ensures.value ∙ c.cause_text.ensures)))
     c.write_pieces.ensures.ok
 
 pub returns-clause-err : goal.returns-clause-err
 returns-clause-err g c =
     on_err c.write_pieces.result
-    (subst (AppendsPrefix (g.S.Sink.written c.args.sink.now) (g.S.Sink.written c.write_pieces.new.sink)) (trap_line c.args.step c.args.routine c.args.cause _ _ _ (c.as_bytes.ensures.value ∙ c.format.ensures.text) (c.as_bytes-2.ensures.value ∙ c.format-2.ensures.text) (c.as_bytes-3.ensures.value ∙ c.cause_text.ensures)))
+    (subst (AppendsPrefix (g.S.Sink.written c.args.sink.now) (g.S.Sink.written c.write_pieces.new.sink))
+    (trap_line c.args.step c.args.routine c.args.cause _ _ _ (c.as_bytes.ensures.value ∙ c.format.ensures.text) (c.as_bytes-2.ensures.value ∙ c.format-2.ensures.text)
+    (c.as_bytes-3.ensures.value ∙ c.cause_text.ensures)))
     c.write_pieces.ensures.err

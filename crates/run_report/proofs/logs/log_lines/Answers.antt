@@ -12,7 +12,8 @@ pub returns-in_err-make_room_for_file-clause-err :
     goal.returns-in_err-make_room_for_file-clause-err
 returns-in_err-make_room_for_file-clause-err g c =
     err_holds c.from_residual.result
-    (stopped_file (g.F.Files.holds c.args.files.now) (g.F.Files.holds c.loop-entry.files) _ c.args.name.now _ c.loop-entry.lines.bytes (flat_map entry_line (drop c.loop-entry.entry-index c.args.history.now)) c.loop-entry.invariant.way c.in_err-make_room_for_file.ensures.err)
+    (stopped_file (g.F.Files.holds c.args.files.now) (g.F.Files.holds c.loop-entry.files) _ c.args.name.now _ c.loop-entry.lines.bytes
+    (flat_map entry_line (drop c.loop-entry.entry-index c.args.history.now)) c.loop-entry.invariant.way c.in_err-make_room_for_file.ensures.err)
 
 pub loop-entry-preserved : goal.loop-entry-preserved
 loop-entry-preserved g c = record {
@@ -21,7 +22,8 @@ loop-entry-preserved g c = record {
       (moves_on _ _ _ c.loop-entry.lines.bytes c.make_room_for_file.new.lines.bytes _
       (λ a b one two. Told-more (g.F.Files.holds c.args.files.now) (g.F.Files.holds c.loop-entry.files) (g.F.Files.holds c.make_room_for_file.new.files) c.args.name.now a b one two)
       (step_log (record { number = c.args.step; size = c.args.n; history = c.args.history.now }))
-      (subst (λ l. Moves (λ front. Told (g.F.Files.holds c.args.files.now) (g.F.Files.holds c.loop-entry.files) (AppendsTo c.args.name.now front)) (step_log (record { number = c.args.step; size = c.args.n; history = c.args.history.now })) (c.loop-entry.lines.bytes ++ l))
+      (subst (λ l. Moves (λ front. Told (g.F.Files.holds c.args.files.now) (g.F.Files.holds c.loop-entry.files) (AppendsTo c.args.name.now front))
+      (step_log (record { number = c.args.step; size = c.args.n; history = c.args.history.now })) (c.loop-entry.lines.bytes ++ l))
       (lines_behind entry_line c.args.history.now c.loop-entry.entry-index _ (omega arith)) c.loop-entry.invariant.way)
       c.in_ok-make_room_for_file.ensures.ok);
   made = c.in_ok-make_room_for_file.ensures.created _ c.loop-entry.invariant.made;
@@ -32,6 +34,7 @@ loop-entry-preserved g c = record {
 pub returns-clause-err : goal.returns-clause-err
 returns-clause-err g c =
     on_err c.append_all.result
-    (λ h. stopped_file (g.F.Files.holds c.args.files.now) (g.F.Files.holds c.loop-entry.files) (g.F.Files.holds c.append_all.new.files) c.args.name.now _ c.loop-entry.lines.bytes (flat_map entry_line (drop c.loop-entry.entry-index c.args.history.now)) c.loop-entry.invariant.way
+    (λ h. stopped_file (g.F.Files.holds c.args.files.now) (g.F.Files.holds c.loop-entry.files) (g.F.Files.holds c.append_all.new.files) c.args.name.now _ c.loop-entry.lines.bytes
+    (flat_map entry_line (drop c.loop-entry.entry-index c.args.history.now)) c.loop-entry.invariant.way
     (subst (λ l. Told (g.F.Files.holds c.loop-entry.files) (g.F.Files.holds c.append_all.new.files) (AppendsPrefixTo c.args.name.now l)) (c.as_bytes.ensures.value ∙ c.as_str.ensures.value) h))
     c.append_all.ensures.err

@@ -12,7 +12,8 @@ use Rattle.run_report.proofs.reports.report_lines.Goals as goal
 pub returns-in_err-make_room-clause-err : goal.returns-in_err-make_room-clause-err
 returns-in_err-make_room-clause-err g c =
     err_holds c.from_residual.result
-    (stopped (g.E.Sink.written c.args.err.now) (g.E.Sink.written c.loop-tally.err) _ _ c.loop-tally.lines.bytes (flat_map tally_line (drop c.loop-tally.tally-index c.args.tallies.now)) c.loop-tally.invariant.way c.in_err-make_room.ensures.err)
+    (stopped (g.E.Sink.written c.args.err.now) (g.E.Sink.written c.loop-tally.err) _ _ c.loop-tally.lines.bytes (flat_map tally_line (drop c.loop-tally.tally-index c.args.tallies.now))
+    c.loop-tally.invariant.way c.in_err-make_room.ensures.err)
 
 pub loop-tally-preserved : goal.loop-tally-preserved
 loop-tally-preserved g c = record {
@@ -30,6 +31,7 @@ loop-tally-preserved g c = record {
 pub returns-clause-err : goal.returns-clause-err
 returns-clause-err g c =
     on_err c.write_all.result
-    (λ h. stopped (g.E.Sink.written c.args.err.now) (g.E.Sink.written c.loop-tally.err) (g.E.Sink.written c.write_all.new.sink) _ c.loop-tally.lines.bytes (flat_map tally_line (drop c.loop-tally.tally-index c.args.tallies.now)) c.loop-tally.invariant.way
+    (λ h. stopped (g.E.Sink.written c.args.err.now) (g.E.Sink.written c.loop-tally.err) (g.E.Sink.written c.write_all.new.sink) _ c.loop-tally.lines.bytes
+    (flat_map tally_line (drop c.loop-tally.tally-index c.args.tallies.now)) c.loop-tally.invariant.way
     (subst (AppendsPrefix (g.E.Sink.written c.loop-tally.err) (g.E.Sink.written c.write_all.new.sink)) (c.as_bytes.ensures.value ∙ c.as_str.ensures.value) h))
     c.write_all.ensures.err

@@ -11,7 +11,8 @@ use Rattle.run_report.proofs.steps.step_lines.Goals as goal
 pub returns-in_err-push_change-clause-err : goal.returns-in_err-push_change-clause-err
 returns-in_err-push_change-clause-err g c =
     err_holds c.from_residual.result
-    (stopped (g.S.Sink.written c.args.out.now) (g.S.Sink.written c.loop-a.out) _ _ c.loop-a.lines.bytes (changes_from c.loop-a.a (drop c.loop-a.a c.args.before.now.memory) (drop c.loop-a.a c.args.after.now.memory)) c.loop-a.invariant.way c.in_err-push_change.ensures.err)
+    (stopped (g.S.Sink.written c.args.out.now) (g.S.Sink.written c.loop-a.out) _ _ c.loop-a.lines.bytes
+    (changes_from c.loop-a.a (drop c.loop-a.a c.args.before.now.memory) (drop c.loop-a.a c.args.after.now.memory)) c.loop-a.invariant.way c.in_err-push_change.ensures.err)
 
 pub loop-a-preserved : goal.loop-a-preserved
 loop-a-preserved g c = record {
@@ -31,6 +32,7 @@ loop-a-preserved g c = record {
 pub returns-clause-err : goal.returns-clause-err
 returns-clause-err g c =
     on_err c.write_all.result
-    (λ h. stopped (g.S.Sink.written c.args.out.now) (g.S.Sink.written c.loop-a.out) (g.S.Sink.written c.write_all.new.sink) _ c.loop-a.lines.bytes (changes_from c.loop-a.a (drop c.loop-a.a c.args.before.now.memory) (drop c.loop-a.a c.args.after.now.memory)) c.loop-a.invariant.way
+    (λ h. stopped (g.S.Sink.written c.args.out.now) (g.S.Sink.written c.loop-a.out) (g.S.Sink.written c.write_all.new.sink) _ c.loop-a.lines.bytes
+    (changes_from c.loop-a.a (drop c.loop-a.a c.args.before.now.memory) (drop c.loop-a.a c.args.after.now.memory)) c.loop-a.invariant.way
     (subst (AppendsPrefix (g.S.Sink.written c.loop-a.out) (g.S.Sink.written c.write_all.new.sink)) (c.as_bytes.ensures.value ∙ c.as_str.ensures.value) h))
     c.write_all.ensures.err

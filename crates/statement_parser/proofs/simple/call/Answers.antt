@@ -25,4 +25,5 @@ returns-in_err-args-clause-answer c =
 
 pub returns-clause-answer : goal.returns-clause-answer
 returns-clause-answer c =
-    then_answers (d.args_follow (λ args. stmt c.args.first.now.at (form.CallOf (call c.args.name.now args)))) _ c.args.tokens.now _ _ _ c.in_ok-args.ensures.answer (rw c.in_ok-name.ensures at c.ended.ensures.answer)
+    then_answers (d.args_follow (λ args. stmt c.args.first.now.at (form.CallOf (call c.args.name.now args)))) _ c.args.tokens.now _ _ _ c.in_ok-args.ensures.answer
+    (rw c.in_ok-name.ensures at c.ended.ensures.answer)

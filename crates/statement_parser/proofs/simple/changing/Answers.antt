@@ -18,7 +18,8 @@ use Rattle.statement_parser.proofs.simple.changing.Goals as goal
 pub returns-in_err-value-clause-answer : goal.returns-in_err-value-clause-answer
 returns-in_err-value-clause-answer c =
     let p = err_from_is_err_and c.from_residual.result c.from_residual.ensures.1 in
-    rw (p.1, p.2) (passed_error _ (Changing c.args.first.now c.args.place) (Stops whole) _ c.args.tokens.now _ (d.set_next c.args.first.now c.args.place c.args.tokens.now _ _ c.requires c.front.ensures (c.if-is_mark.ensures.0 refl))
+    rw (p.1, p.2) (passed_error _ (Changing c.args.first.now c.args.place) (Stops whole) _ c.args.tokens.now _
+    (d.set_next c.args.first.now c.args.place c.args.tokens.now _ _ c.requires c.front.ensures (c.if-is_mark.ensures.0 refl))
     (then_first (d.expr_last (λ v. stmt c.args.first.now.at (form.Set c.args.place v))) _ _ c.in_err-value.ensures.answer))
 
 pub returns-then-is_mark-clause-answer : goal.returns-then-is_mark-clause-answer
@@ -30,7 +31,8 @@ returns-then-is_mark-clause-answer c =
 pub returns-in_err-value-2-clause-answer : goal.returns-in_err-value-2-clause-answer
 returns-in_err-value-2-clause-answer c =
     let p = err_from_is_err_and c.from_residual-in_err-value-2.result c.from_residual-in_err-value-2.ensures.1 in
-    rw (p.1, p.2) (passed_error _ (Changing c.args.first.now c.args.place) (Stops whole) _ c.args.tokens.now _ (d.add_next c.args.first.now c.args.place c.args.tokens.now _ _ c.requires c.front.ensures (c.if-is_mark-2.ensures.0 refl))
+    rw (p.1, p.2) (passed_error _ (Changing c.args.first.now c.args.place) (Stops whole) _ c.args.tokens.now _
+    (d.add_next c.args.first.now c.args.place c.args.tokens.now _ _ c.requires c.front.ensures (c.if-is_mark-2.ensures.0 refl))
     (then_first (d.expr_last (λ v. stmt c.args.first.now.at (form.AddTo c.args.place v))) _ _ c.in_err-value-2.ensures.answer))
 
 pub returns-then-is_mark-2-clause-answer : goal.returns-then-is_mark-2-clause-answer

@@ -30,19 +30,22 @@ pub more-init : goal.more-init
 more-init c = record {
   ended = c.in_ok-i.ensures.answer.ended;
   shorter = omega (arith, c.in_ok-i.ensures.shorter);
-  passes = rw (c.in_ok-push.ensures.ok ∙ ap (λ (x : List Item). x ++ c.in_ok-i.i ∷ []) c.new-items.ensures) (d.items_begun c.args.tokens.now _ _ (begins_other _ c.args.tokens.now _ _ c.front.ensures (λ h. cc (c.if-is_mark.ensures.1 h))) c.in_ok-i.ensures.answer);
+  passes = rw (c.in_ok-push.ensures.ok ∙ ap (λ (x : List Item). x ++ c.in_ok-i.i ∷ []) c.new-items.ensures)
+      (d.items_begun c.args.tokens.now _ _ (begins_other _ c.args.tokens.now _ _ c.front.ensures (λ h. cc (c.if-is_mark.ensures.1 h))) c.in_ok-i.ensures.answer);
 }
 
 pub returns-in_err-i-2-clause-answer : goal.returns-in_err-i-2-clause-answer
 returns-in_err-i-2-clause-answer c =
     let p = err_from_is_err_and c.from_residual-in_err-i-2.result c.from_residual-in_err-i-2.ensures.1 in
-    rw (p.1, p.2) (passed_error _ _ stops_anywhere _ c.args.tokens.now _ c.more.invariant.passes (d.items_more_err c.more.items c.more.rest.now c.in-Some.ensures.0 _ _ c.more.invariant.ended c.in-Some.ensures.1.0 c.in-Some.ensures.1.1 c.in_err-i-2.ensures.answer))
+    rw (p.1, p.2) (passed_error _ _ stops_anywhere _ c.args.tokens.now _ c.more.invariant.passes
+    (d.items_more_err c.more.items c.more.rest.now c.in-Some.ensures.0 _ _ c.more.invariant.ended c.in-Some.ensures.1.0 c.in-Some.ensures.1.1 c.in_err-i-2.ensures.answer))
 
 pub more-preserved : goal.more-preserved
 more-preserved c = record {
   ended = c.in_ok-i-2.ensures.answer.ended;
   shorter = omega (arith, c.in_ok-i-2.ensures.shorter, c.more.invariant.shorter, ap (λ (x : List Token). length x) c.in-Some.ensures.1.0);
-  passes = rw c.in_ok-push-2.ensures.ok (passes_through (d.items_more c.more.items c.more.rest.now c.in-Some.ensures.0 _ _ _ c.more.invariant.ended c.in-Some.ensures.1.0 c.in-Some.ensures.1.1 c.in_ok-i-2.ensures.answer) c.more.invariant.passes);
+  passes = rw c.in_ok-push-2.ensures.ok (passes_through (d.items_more c.more.items c.more.rest.now c.in-Some.ensures.0 _ _ _ c.more.invariant.ended c.in-Some.ensures.1.0 c.in-Some.ensures.1.1
+      c.in_ok-i-2.ensures.answer) c.more.invariant.passes);
 }
 
 pub returns-in_err-rest-clause-answer : goal.returns-in_err-rest-clause-answer

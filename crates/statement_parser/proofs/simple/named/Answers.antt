@@ -20,12 +20,14 @@ use Rattle.statement_parser.proofs.simple.named.Goals as goal
 
 pub returns-then-is_mark-clause-answer : goal.returns-then-is_mark-clause-answer
 returns-then-is_mark-clause-answer c =
-    passed _ _ NoElse _ c.args.tokens.now _ _ (d.called_next c.args.first.now c.args.name.now c.args.tokens.now _ _ c.requires.kind c.requires.ended c.front.ensures (c.if-is_mark.ensures.0 refl)) c.call.ensures.answer
+    passed _ _ NoElse _ c.args.tokens.now _ _ (d.called_next c.args.first.now c.args.name.now c.args.tokens.now _ _ c.requires.kind c.requires.ended c.front.ensures (c.if-is_mark.ensures.0 refl))
+    c.call.ensures.answer
 
 pub returns-in_err-s-clause-answer : goal.returns-in_err-s-clause-answer
 returns-in_err-s-clause-answer c =
     let p = err_from_is_err_and c.from_residual.result c.from_residual.ensures.1 in
-    rw (p.1, p.2) (passed_error _ _ NoElse _ c.args.tokens.now _ (d.changed_next c.args.first.now c.args.name.now c.args.tokens.now _ _ c.requires.kind c.front.ensures (λ h. cc (c.if-is_mark.ensures.1 h)))
+    rw (p.1, p.2) (passed_error _ _ NoElse _ c.args.tokens.now _ (d.changed_next c.args.first.now c.args.name.now c.args.tokens.now _ _ c.requires.kind c.front.ensures
+    (λ h. cc (c.if-is_mark.ensures.1 h)))
     (then_first (d.change_follows c.args.first.now c.args.name.now c.requires.kind) c.args.tokens.now _ c.in_err-s.ensures.answer))
 
 pub returns-clause-answer : goal.returns-clause-answer

@@ -58,8 +58,11 @@ invariant-main_turns-loop-v g l = record {
   bound : ℕ;
   enough : l.world.fuel ≤ bound;
   told : Told
-      (effects.loop (λ inner. spec.value_of l.fn.p (calls_to l.fn.p most_levels) inner l.fn.test) (effects.scoped (effects.statements l.fn.p (calls_to l.fn.p most_levels) (in_main l.fn.p l.fn.fuel) l.fn.body)) (effects.step_of l.fn.p (calls_to l.fn.p most_levels) (in_main l.fn.p l.fn.fuel) (option_copied l.fn.next)) l.fn.locals l.fn.world)
-      (effects.turns bound (λ inner. spec.value_of l.p (calls_to l.p most_levels) inner l.test) (effects.scoped (effects.statements l.p (calls_to l.p most_levels) (in_main l.p l.fuel) l.body)) (effects.step_of l.p (calls_to l.p most_levels) (in_main l.p l.fuel) (option_copied l.next)) l.locals l.world)
+      (effects.loop (λ inner. spec.value_of l.fn.p (calls_to l.fn.p most_levels) inner l.fn.test)
+      (effects.scoped (effects.statements l.fn.p (calls_to l.fn.p most_levels) (in_main l.fn.p l.fn.fuel) l.fn.body))
+      (effects.step_of l.fn.p (calls_to l.fn.p most_levels) (in_main l.fn.p l.fn.fuel) (option_copied l.fn.next)) l.fn.locals l.fn.world)
+      (effects.turns bound (λ inner. spec.value_of l.p (calls_to l.p most_levels) inner l.test) (effects.scoped (effects.statements l.p (calls_to l.p most_levels) (in_main l.p l.fuel) l.body))
+      (effects.step_of l.p (calls_to l.p most_levels) (in_main l.p l.fuel) (option_copied l.next)) l.locals l.world)
       (g.S.Sink.written l.fn.out) (g.S.Sink.written l.out);
   later : g.S.Sink.faults l.fn.out ≤ g.S.Sink.faults l.out;
   main : IsMain l.world;

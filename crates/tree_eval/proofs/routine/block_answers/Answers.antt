@@ -10,6 +10,7 @@ loop-id-preserved c =
     let id = c.loop-id.id in
     record {
       same = c.in_ok-lent.ensures.memory ∙ c.loop-id.invariant.same;
-      rest = ap (λ a. a ++ block_from f (id + 1) (c.args.width - (id + 1))) (c.in_ok-push.ensures.ok ∙ ap (λ g. c.loop-id.answers ++ Some g ∷ []) (c.in_ok-lent.ensures.answer ∙ ap (λ m. answer c.args.p.now m c.args.fuel c.args.block.now c.args.width id) c.loop-id.invariant.same))
+      rest = ap (λ a. a ++ block_from f (id + 1) (c.args.width - (id + 1))) (c.in_ok-push.ensures.ok
+          ∙ ap (λ g. c.loop-id.answers ++ Some g ∷ []) (c.in_ok-lent.ensures.answer ∙ ap (λ m. answer c.args.p.now m c.args.fuel c.args.block.now c.args.width id) c.loop-id.invariant.same))
           ∙ one_more f c.loop-id.answers c.args.width id (omega arith) ∙ c.loop-id.invariant.rest;
     }

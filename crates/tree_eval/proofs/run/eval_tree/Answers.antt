@@ -9,13 +9,28 @@ use Rattle.tree_eval.proofs.Starting.{length_first, run_is, same_end, whole_text
 use Rattle.tree_eval.proofs.run.eval_tree.Goals as goal
 
 pub returns-clause-end : goal.returns-clause-end
-returns-clause-end g c = rw c.run_end.ensures (same_end (run_of c.args.p.now c.args.fuel) (g.S.Sink.written c.args.out.now) (g.S.Sink.written c.main_statements-went.new.out) c.main_statements-went.result c.main_statements-went.new.locals c.main_statements-went.new.world (subst (λ (o : Outcome Went). Tells o c.main_statements-went.result c.main_statements-went.new.locals c.main_statements-went.new.world (g.S.Sink.written c.args.out.now) (g.S.Sink.written c.main_statements-went.new.out)) (run_is c.args.p.now c.args.fuel c.as_slice-2.result.now c.new-locals.result c.in-Ok.memory (c.as_slice-2.ensures ∙ ap (λ (q : Program). q.main) c.program-tree.ensures) c.new-locals.ensures (c.in-Ok.ensures ∙ ap first_memory (c.as_slice.ensures ∙ ap (λ (q : Program). q.shared) c.program-tree.ensures))) c.main_statements-went.ensures.tells))
+returns-clause-end g c = rw c.run_end.ensures (same_end (run_of c.args.p.now c.args.fuel) (g.S.Sink.written c.args.out.now) (g.S.Sink.written c.main_statements-went.new.out)
+    c.main_statements-went.result c.main_statements-went.new.locals c.main_statements-went.new.world
+    (subst (λ (o : Outcome Went). Tells o c.main_statements-went.result c.main_statements-went.new.locals c.main_statements-went.new.world (g.S.Sink.written c.args.out.now)
+    (g.S.Sink.written c.main_statements-went.new.out)) (run_is c.args.p.now c.args.fuel c.as_slice-2.result.now c.new-locals.result c.in-Ok.memory
+    (c.as_slice-2.ensures ∙ ap (λ (q : Program). q.main) c.program-tree.ensures) c.new-locals.ensures
+    (c.in-Ok.ensures ∙ ap first_memory (c.as_slice.ensures ∙ ap (λ (q : Program). q.shared) c.program-tree.ensures))) c.main_statements-went.ensures.tells))
 
 pub returns-clause-whole : goal.returns-clause-whole
-returns-clause-whole g c = rw c.run_end.ensures (whole_text (run_of c.args.p.now c.args.fuel) (g.S.Sink.written c.args.out.now) (g.S.Sink.written c.main_statements-went.new.out) c.main_statements-went.result c.main_statements-went.new.locals c.main_statements-went.new.world (subst (λ (o : Outcome Went). Tells o c.main_statements-went.result c.main_statements-went.new.locals c.main_statements-went.new.world (g.S.Sink.written c.args.out.now) (g.S.Sink.written c.main_statements-went.new.out)) (run_is c.args.p.now c.args.fuel c.as_slice-2.result.now c.new-locals.result c.in-Ok.memory (c.as_slice-2.ensures ∙ ap (λ (q : Program). q.main) c.program-tree.ensures) c.new-locals.ensures (c.in-Ok.ensures ∙ ap first_memory (c.as_slice.ensures ∙ ap (λ (q : Program). q.shared) c.program-tree.ensures))) c.main_statements-went.ensures.tells))
+returns-clause-whole g c = rw c.run_end.ensures (whole_text (run_of c.args.p.now c.args.fuel) (g.S.Sink.written c.args.out.now) (g.S.Sink.written c.main_statements-went.new.out)
+    c.main_statements-went.result c.main_statements-went.new.locals c.main_statements-went.new.world
+    (subst (λ (o : Outcome Went). Tells o c.main_statements-went.result c.main_statements-went.new.locals c.main_statements-went.new.world (g.S.Sink.written c.args.out.now)
+    (g.S.Sink.written c.main_statements-went.new.out)) (run_is c.args.p.now c.args.fuel c.as_slice-2.result.now c.new-locals.result c.in-Ok.memory
+    (c.as_slice-2.ensures ∙ ap (λ (q : Program). q.main) c.program-tree.ensures) c.new-locals.ensures
+    (c.in-Ok.ensures ∙ ap first_memory (c.as_slice.ensures ∙ ap (λ (q : Program). q.shared) c.program-tree.ensures))) c.main_statements-went.ensures.tells))
 
 pub returns-clause-prefix : goal.returns-clause-prefix
-returns-clause-prefix g c = rw c.run_end.ensures (prefix_text (run_of c.args.p.now c.args.fuel) (g.S.Sink.written c.args.out.now) (g.S.Sink.written c.main_statements-went.new.out) c.main_statements-went.result c.main_statements-went.new.locals c.main_statements-went.new.world (subst (λ (o : Outcome Went). Tells o c.main_statements-went.result c.main_statements-went.new.locals c.main_statements-went.new.world (g.S.Sink.written c.args.out.now) (g.S.Sink.written c.main_statements-went.new.out)) (run_is c.args.p.now c.args.fuel c.as_slice-2.result.now c.new-locals.result c.in-Ok.memory (c.as_slice-2.ensures ∙ ap (λ (q : Program). q.main) c.program-tree.ensures) c.new-locals.ensures (c.in-Ok.ensures ∙ ap first_memory (c.as_slice.ensures ∙ ap (λ (q : Program). q.shared) c.program-tree.ensures))) c.main_statements-went.ensures.tells))
+returns-clause-prefix g c = rw c.run_end.ensures (prefix_text (run_of c.args.p.now c.args.fuel) (g.S.Sink.written c.args.out.now) (g.S.Sink.written c.main_statements-went.new.out)
+    c.main_statements-went.result c.main_statements-went.new.locals c.main_statements-went.new.world
+    (subst (λ (o : Outcome Went). Tells o c.main_statements-went.result c.main_statements-went.new.locals c.main_statements-went.new.world (g.S.Sink.written c.args.out.now)
+    (g.S.Sink.written c.main_statements-went.new.out)) (run_is c.args.p.now c.args.fuel c.as_slice-2.result.now c.new-locals.result c.in-Ok.memory
+    (c.as_slice-2.ensures ∙ ap (λ (q : Program). q.main) c.program-tree.ensures) c.new-locals.ensures
+    (c.in-Ok.ensures ∙ ap first_memory (c.as_slice.ensures ∙ ap (λ (q : Program). q.shared) c.program-tree.ensures))) c.main_statements-went.ensures.tells))
 
 pub returns-clause-failed : goal.returns-clause-failed
 returns-clause-failed g c = rw c.run_end.ensures (failed_only c.main_statements-went.result c.main_statements-went.new.world.steps _ _ c.main_statements-went.ensures.failed)

@@ -21,7 +21,8 @@ returns-in-Ok-clause-tells c = λ text.
     let opening_is : c.memory_in-opening.result ≡ memory_in c.args.world.now.store = c.memory_in-opening.ensures ∙ ap memory_in c.replace.ensures.value in
     let memory_is = sym (c.as_slice.ensures ∙ c.in_ok-memory.ensures.memory ∙ opening_is) in
     let answers_are = sym (c.as_slice-2.ensures ∙ c.in_ok-memory.ensures.answers ∙ ap (λ x. all_of (answers c.args.p.now x c.args.fuel c.args.blocks.now c.args.widths.now)) opening_is) in
-    rw add-one (step_done c.args.p.now c.args.fuel c.args.blocks.now c.args.widths.now c.args.world.now c.in-Ok.memory text ((λ i. after (memory_is i) (answers_are i)) ∙ c.in_ok-memory-2.ensures.merged ∙ c.in-Ok.is))
+    rw add-one (step_done c.args.p.now c.args.fuel c.args.blocks.now c.args.widths.now c.args.world.now c.in-Ok.memory text
+    ((λ i. after (memory_is i) (answers_are i)) ∙ c.in_ok-memory-2.ensures.merged ∙ c.in-Ok.is))
 
 pub returns-in-Ok-clause-goes_on : goal.returns-in-Ok-clause-goes_on
 returns-in-Ok-clause-goes_on c =

@@ -1,9 +1,11 @@
 use Rattle.std.proofs.Common.{rules, arith, refl, ◌∙◌, ◌-◌, Ok, Err}
-use Rattle.tree_eval.proofs.Equations.{stops_first, gives_first, value_unary, value_binary, value_paren, read_item, result_is, appends_first, changed_item_of, sets_stop, sets_next, sets_alone, value_appended, value_stops, next_item}
+use Rattle.tree_eval.proofs.Equations.{stops_first, gives_first, value_unary, value_binary, value_paren, read_item, result_is, appends_first, changed_item_of, sets_stop, sets_next, sets_alone}
+use Rattle.tree_eval.proofs.Equations.{value_appended, value_stops, next_item}
 use Rattle.std.proofs.lemmas.Result.{err_from_is_err_and, IfOk-at_ok}
 use Rattle.tree_eval.specs.Lists.{values_of}
 use Rattle.csl_meaning.specs.Effect.{calls_to}
-use Rattle.tree_eval.proofs.Sizes.{in_unary, in_left, in_right, in_paren, in_read, in_call_of, in_place, in_call, one_value, one_of, in_return, in_call_statement, in_function, in_if, in_while, in_for, in_first, in_assert, in_change_index, in_declare, in_block, one_arm, in_last}
+use Rattle.tree_eval.proofs.Sizes.{in_unary, in_left, in_right, in_paren, in_read, in_call_of, in_place, in_call, one_value, one_of, in_return, in_call_statement, in_function, in_if, in_while, in_for}
+use Rattle.tree_eval.proofs.Sizes.{in_first, in_assert, in_change_index, in_declare, in_block, one_arm, in_last}
 use Rattle.std.proofs.Common.{sym, ap, subst, ◌≤◌, length, Some}
 use Rattle.std.specs.Option.{option_copied}
 use Rattle.csl_meaning.specs.Value.{value_of}
@@ -11,7 +13,8 @@ use Rattle.csl_meaning.specs.Effect.{scoped, statements, nowhere, loop, effect, 
 use Rattle.csl_meaning.specs.Runs.{◌>>=◌, and_then}
 use Rattle.tree_eval.specs.Follows.{Goes}
 use Rattle.csl_tree.specs.declared.program.Stmt.{Stmt}
-use Rattle.tree_eval.proofs.Loops.{effect_if, effect_while, effect_block, effect_for, first_stops, loop_stops, loop_gives, again, test_stops, test_false, turn_stops, turn_gives, to_step, step_stops, unit_stops, unit_taken}
+use Rattle.tree_eval.proofs.Loops.{effect_if, effect_while, effect_block, effect_for, first_stops, loop_stops, loop_gives, again, test_stops, test_false, turn_stops, turn_gives, to_step, step_stops}
+use Rattle.tree_eval.proofs.Loops.{unit_stops, unit_taken}
 use Rattle.tree_eval.proofs.Calls.{too_deep, no_function, body_stops, body_gives, found, found_none, begun, run_on}
 use Rattle.tree_eval.proofs.stmt.+eval.Goals as goal
 
@@ -43,7 +46,8 @@ pub call_of-returns-in_err-values-clause-follows : goal.call_of-returns-in_err-v
 call_of-returns-in_err-values-clause-follows t c = rw (result_is _ _ _ _ _) (search (rules, stops_first))
 
 pub call_of-returns-in_err-take_unit-clause-follows : goal.call_of-returns-in_err-take_unit-clause-follows
-call_of-returns-in_err-take_unit-clause-follows t c = rw (result_is _ _ _ _ _, ← c.as_slice.ensures) (appends_first _ _ _ _ _ _ _ c.new-given.ensures c.in_ok-values.ensures.follows (search (rules, stops_first)))
+call_of-returns-in_err-take_unit-clause-follows t c = rw (result_is _ _ _ _ _, ← c.as_slice.ensures)
+    (appends_first _ _ _ _ _ _ _ c.new-given.ensures c.in_ok-values.ensures.follows (search (rules, stops_first)))
 
 pub call_of-returns-clause-follows : goal.call_of-returns-clause-follows
 call_of-returns-clause-follows t c = rw (result_is _ _ _ _ _, ← c.as_slice.ensures) (appends_first _ _ _ _ _ _ _ c.new-given.ensures c.in_ok-values.ensures.follows (search (rules, gives_first)))
@@ -51,7 +55,9 @@ call_of-returns-clause-follows t c = rw (result_is _ _ _ _ _, ← c.as_slice.ens
 pub values-returns-in_err-v-clause-follows : goal.values-returns-in_err-v-clause-follows
 values-returns-in_err-v-clause-follows t c =
     let p = err_from_is_err_and c.from_residual.result c.from_residual.ensures.1 in
-    rw (p.1, p.2) (value_stops c.args.p.now (calls_to c.args.p.now c.args.levels) c.args.locals.now _ _ _ c.args.given.now c.loop-e.given c.loop-e.given _ _ _ c.args.world.now (values_of c.args.p.now (calls_to c.args.p.now c.args.levels) c.args.locals.now c.args.all.now) (next_item c.args.all.now c.loop-e.e-index c.e-item.result (omega arith) c.e-item.is) c.in_err-v.ensures.follows c.loop-e.invariant.0)
+    rw (p.1, p.2) (value_stops c.args.p.now (calls_to c.args.p.now c.args.levels) c.args.locals.now _ _ _ c.args.given.now c.loop-e.given c.loop-e.given _ _ _ c.args.world.now
+    (values_of c.args.p.now (calls_to c.args.p.now c.args.levels) c.args.locals.now c.args.all.now) (next_item c.args.all.now c.loop-e.e-index c.e-item.result (omega arith) c.e-item.is)
+    c.in_err-v.ensures.follows c.loop-e.invariant.0)
 
 pub values-loop-e-preserved : goal.values-loop-e-preserved
 values-loop-e-preserved t c =
@@ -107,17 +113,26 @@ run_call-statements-requires t c =
 pub run_call-returns-in_err-e-in-Some-clause-follows : goal.run_call-returns-in_err-e-in-Some-clause-follows
 run_call-returns-in_err-e-in-Some-clause-follows t c =
     let p = err_from_is_err_and c.from_residual-in_err-e-in-Some.result c.from_residual-in_err-e-in-Some.ensures.1 in
-    rw (p.1, p.2) (body_stops c.args.p.now c.args.name.now c.args.given.now c.args.world.now c.args.levels c.in-Some.f.now c.in_ok-locals-in-Some.locals c.statements.new.locals c.in_err-e-in-Some.field-0.0 c.statements.new.world
-    (omega arith) (found c.args.p.now.functions c.args.p.now.functions c.args.name.now c.in-Some.f.now refl c.in-Some.ensures) (begun c.as_slice.result.now c.in-Some.f.now.params c.in_ok-locals-in-Some.locals c.args.given.now c.as_slice.ensures c.in_ok-locals-in-Some.ensures) (run_on c.args.p.now (calls_to c.args.p.now (c.args.levels - 1)) c.as_slice-in-Some.result.now c.in-Some.f.now.body c.in_ok-locals-in-Some.locals c.statements.new.locals c.args.world.now c.statements.new.world (Err c.in_err-e-in-Some.field-0.0) c.as_slice-in-Some.ensures c.in_err-e-in-Some.ensures.goes))
+    rw (p.1, p.2) (body_stops c.args.p.now c.args.name.now c.args.given.now c.args.world.now c.args.levels c.in-Some.f.now c.in_ok-locals-in-Some.locals c.statements.new.locals
+    c.in_err-e-in-Some.field-0.0 c.statements.new.world
+    (omega arith) (found c.args.p.now.functions c.args.p.now.functions c.args.name.now c.in-Some.f.now refl c.in-Some.ensures)
+    (begun c.as_slice.result.now c.in-Some.f.now.params c.in_ok-locals-in-Some.locals c.args.given.now c.as_slice.ensures c.in_ok-locals-in-Some.ensures)
+    (run_on c.args.p.now (calls_to c.args.p.now (c.args.levels - 1)) c.as_slice-in-Some.result.now c.in-Some.f.now.body c.in_ok-locals-in-Some.locals c.statements.new.locals c.args.world.now
+    c.statements.new.world (Err c.in_err-e-in-Some.field-0.0) c.as_slice-in-Some.ensures c.in_err-e-in-Some.ensures.goes))
 
 pub run_call-returns-in-None-clause-follows : goal.run_call-returns-in-None-clause-follows
 run_call-returns-in-None-clause-follows t c =
-    no_function c.args.p.now c.args.name.now c.args.given.now c.args.world.now c.args.levels (omega arith) (found_none c.args.p.now.functions c.args.p.now.functions c.args.name.now refl c.in-None.ensures)
+    no_function c.args.p.now c.args.name.now c.args.given.now c.args.world.now c.args.levels (omega arith)
+    (found_none c.args.p.now.functions c.args.p.now.functions c.args.name.now refl c.in-None.ensures)
 
 pub run_call-returns-in_ok-e-in-Some-clause-follows : goal.run_call-returns-in_ok-e-in-Some-clause-follows
 run_call-returns-in_ok-e-in-Some-clause-follows t c =
-    rw c.given_back.ensures (body_gives c.args.p.now c.args.name.now c.args.given.now c.args.world.now c.args.levels c.in-Some.f.now c.in_ok-locals-in-Some.locals c.statements.new.locals c.in_ok-e-in-Some.e c.statements.new.world
-    (omega arith) (found c.args.p.now.functions c.args.p.now.functions c.args.name.now c.in-Some.f.now refl c.in-Some.ensures) (begun c.as_slice.result.now c.in-Some.f.now.params c.in_ok-locals-in-Some.locals c.args.given.now c.as_slice.ensures c.in_ok-locals-in-Some.ensures) (run_on c.args.p.now (calls_to c.args.p.now (c.args.levels - 1)) c.as_slice-in-Some.result.now c.in-Some.f.now.body c.in_ok-locals-in-Some.locals c.statements.new.locals c.args.world.now c.statements.new.world (Ok c.in_ok-e-in-Some.e) c.as_slice-in-Some.ensures c.in_ok-e-in-Some.ensures.goes))
+    rw c.given_back.ensures (body_gives c.args.p.now c.args.name.now c.args.given.now c.args.world.now c.args.levels c.in-Some.f.now c.in_ok-locals-in-Some.locals c.statements.new.locals
+    c.in_ok-e-in-Some.e c.statements.new.world
+    (omega arith) (found c.args.p.now.functions c.args.p.now.functions c.args.name.now c.in-Some.f.now refl c.in-Some.ensures)
+    (begun c.as_slice.result.now c.in-Some.f.now.params c.in_ok-locals-in-Some.locals c.args.given.now c.as_slice.ensures c.in_ok-locals-in-Some.ensures)
+    (run_on c.args.p.now (calls_to c.args.p.now (c.args.levels - 1)) c.as_slice-in-Some.result.now c.in-Some.f.now.body c.in_ok-locals-in-Some.locals c.statements.new.locals c.args.world.now
+    c.statements.new.world (Ok c.in_ok-e-in-Some.e) c.as_slice-in-Some.ensures c.in_ok-e-in-Some.ensures.goes))
 
 pub choose-value-requires : goal.choose-value-requires
 choose-value-requires t c = (omega (arith, c.decreases, one_arm c.args.arms.now c.loop-arm.arm-index c.arm-item.result (omega arith) c.arm-item.is), c.requires)
@@ -163,21 +178,45 @@ statement-returns-in-Block-clause-goes t c = rw (effect_block _ _ nowhere _ _ _ 
 pub statement-returns-in_err-statement-in-For-clause-goes : goal.statement-returns-in_err-statement-in-For-clause-goes
 statement-returns-in_err-statement-in-For-clause-goes t c =
     let p = err_from_is_err_and c.from_residual-in_err-statement-in-For.result c.from_residual-in_err-statement-in-For.ensures.1 in
-    rw (p.1, p.2) (subst (λ o. Goes o (Err c.in_err-statement-in-For.field-0.0) c.statement.new.locals c.statement.new.world) (sym (effect_for c.args.p.now (calls_to c.args.p.now c.args.levels) nowhere c.args.s.now.form c.in-For.first c.in-For.test c.in-For.next c.in-For.body c.args.locals.now c.args.world.now c.in-For.is))
-    (first_stops c.args.p.now (calls_to c.args.p.now c.args.levels) nowhere (loop (λ inner. value_of c.args.p.now (calls_to c.args.p.now c.args.levels) inner c.in-For.test) (scoped (statements c.args.p.now (calls_to c.args.p.now c.args.levels) nowhere c.in-For.body)) (step_of c.args.p.now (calls_to c.args.p.now c.args.levels) nowhere (Some c.in-For.next))) (length c.args.locals.now) (effect c.args.p.now (calls_to c.args.p.now c.args.levels) nowhere c.in-For.first.form c.args.locals.now c.args.world.now) c.statement.new.locals c.statement.new.locals c.statement.new.world c.in_err-statement-in-For.field-0.0 (subst (λ (x : Stmt). Goes (effect c.args.p.now (calls_to c.args.p.now c.args.levels) nowhere x.form c.args.locals.now c.args.world.now) (Err c.in_err-statement-in-For.field-0.0) c.statement.new.locals c.statement.new.world) c.get.ensures c.in_err-statement-in-For.ensures.goes)))
+    rw (p.1, p.2) (subst (λ o. Goes o (Err c.in_err-statement-in-For.field-0.0) c.statement.new.locals c.statement.new.world)
+    (sym (effect_for c.args.p.now (calls_to c.args.p.now c.args.levels) nowhere c.args.s.now.form c.in-For.first c.in-For.test c.in-For.next c.in-For.body c.args.locals.now c.args.world.now
+    c.in-For.is))
+    (first_stops c.args.p.now (calls_to c.args.p.now c.args.levels) nowhere (loop (λ inner. value_of c.args.p.now (calls_to c.args.p.now c.args.levels) inner c.in-For.test)
+    (scoped (statements c.args.p.now (calls_to c.args.p.now c.args.levels) nowhere c.in-For.body)) (step_of c.args.p.now (calls_to c.args.p.now c.args.levels) nowhere (Some c.in-For.next)))
+    (length c.args.locals.now) (effect c.args.p.now (calls_to c.args.p.now c.args.levels) nowhere c.in-For.first.form c.args.locals.now c.args.world.now) c.statement.new.locals
+    c.statement.new.locals c.statement.new.world c.in_err-statement-in-For.field-0.0 (subst
+    (λ (x : Stmt). Goes (effect c.args.p.now (calls_to c.args.p.now c.args.levels) nowhere x.form c.args.locals.now c.args.world.now) (Err c.in_err-statement-in-For.field-0.0)
+    c.statement.new.locals c.statement.new.world) c.get.ensures c.in_err-statement-in-For.ensures.goes)))
 
 pub statement-returns-in_err-e-in-For-clause-goes : goal.statement-returns-in_err-e-in-For-clause-goes
 statement-returns-in_err-e-in-For-clause-goes t c =
     let p = err_from_is_err_and c.from_residual-in_err-e-in-For.result c.from_residual-in_err-e-in-For.ensures.1 in
-    rw (p.1, p.2) (subst (λ o. Goes o (Err c.in_err-e-in-For.field-0.0) c.turns-in-For.new.locals c.turns-in-For.new.world) (sym (effect_for c.args.p.now (calls_to c.args.p.now c.args.levels) nowhere c.args.s.now.form c.in-For.first c.in-For.test c.in-For.next c.in-For.body c.args.locals.now c.args.world.now c.in-For.is))
-    (loop_stops c.args.p.now (calls_to c.args.p.now c.args.levels) nowhere (loop (λ inner. value_of c.args.p.now (calls_to c.args.p.now c.args.levels) inner c.in-For.test) (scoped (statements c.args.p.now (calls_to c.args.p.now c.args.levels) nowhere c.in-For.body)) (step_of c.args.p.now (calls_to c.args.p.now c.args.levels) nowhere (Some c.in-For.next))) (length c.args.locals.now) (effect c.args.p.now (calls_to c.args.p.now c.args.levels) nowhere c.in-For.first.form c.args.locals.now c.args.world.now) c.in_ok-statement-in-For.field-0 c.statement.new.locals c.turns-in-For.new.locals c.turns-in-For.new.locals c.statement.new.world c.turns-in-For.new.world c.in_err-e-in-For.field-0.0
-    (subst (λ (x : Stmt). Goes (effect c.args.p.now (calls_to c.args.p.now c.args.levels) nowhere x.form c.args.locals.now c.args.world.now) (Ok c.in_ok-statement-in-For.field-0) c.statement.new.locals c.statement.new.world) c.get.ensures c.in_ok-statement-in-For.ensures.goes) (subst (λ (x : Stmt). Goes (loop (λ inner. value_of c.args.p.now (calls_to c.args.p.now c.args.levels) inner c.in-For.test) (scoped (statements c.args.p.now (calls_to c.args.p.now c.args.levels) nowhere c.in-For.body)) (step_of c.args.p.now (calls_to c.args.p.now c.args.levels) nowhere (Some x)) c.statement.new.locals c.statement.new.world) (Err c.in_err-e-in-For.field-0.0) c.turns-in-For.new.locals c.turns-in-For.new.world) c.get-in-For.ensures c.in_err-e-in-For.ensures.goes)))
+    rw (p.1, p.2) (subst (λ o. Goes o (Err c.in_err-e-in-For.field-0.0) c.turns-in-For.new.locals c.turns-in-For.new.world)
+    (sym (effect_for c.args.p.now (calls_to c.args.p.now c.args.levels) nowhere c.args.s.now.form c.in-For.first c.in-For.test c.in-For.next c.in-For.body c.args.locals.now c.args.world.now
+    c.in-For.is))
+    (loop_stops c.args.p.now (calls_to c.args.p.now c.args.levels) nowhere (loop (λ inner. value_of c.args.p.now (calls_to c.args.p.now c.args.levels) inner c.in-For.test)
+    (scoped (statements c.args.p.now (calls_to c.args.p.now c.args.levels) nowhere c.in-For.body)) (step_of c.args.p.now (calls_to c.args.p.now c.args.levels) nowhere (Some c.in-For.next)))
+    (length c.args.locals.now) (effect c.args.p.now (calls_to c.args.p.now c.args.levels) nowhere c.in-For.first.form c.args.locals.now c.args.world.now) c.in_ok-statement-in-For.field-0
+    c.statement.new.locals c.turns-in-For.new.locals c.turns-in-For.new.locals c.statement.new.world c.turns-in-For.new.world c.in_err-e-in-For.field-0.0
+    (subst (λ (x : Stmt). Goes (effect c.args.p.now (calls_to c.args.p.now c.args.levels) nowhere x.form c.args.locals.now c.args.world.now) (Ok c.in_ok-statement-in-For.field-0)
+    c.statement.new.locals c.statement.new.world) c.get.ensures c.in_ok-statement-in-For.ensures.goes)
+    (subst (λ (x : Stmt). Goes (loop (λ inner. value_of c.args.p.now (calls_to c.args.p.now c.args.levels) inner c.in-For.test)
+    (scoped (statements c.args.p.now (calls_to c.args.p.now c.args.levels) nowhere c.in-For.body)) (step_of c.args.p.now (calls_to c.args.p.now c.args.levels) nowhere (Some x))
+    c.statement.new.locals c.statement.new.world) (Err c.in_err-e-in-For.field-0.0) c.turns-in-For.new.locals c.turns-in-For.new.world) c.get-in-For.ensures c.in_err-e-in-For.ensures.goes)))
 
 pub statement-returns-in_ok-e-in-For-clause-goes : goal.statement-returns-in_ok-e-in-For-clause-goes
 statement-returns-in_ok-e-in-For-clause-goes t c =
     (effect_for c.args.p.now (calls_to c.args.p.now c.args.levels) nowhere c.args.s.now.form c.in-For.first c.in-For.test c.in-For.next c.in-For.body c.args.locals.now c.args.world.now c.in-For.is)
-    ∙ loop_gives c.args.p.now (calls_to c.args.p.now c.args.levels) nowhere (loop (λ inner. value_of c.args.p.now (calls_to c.args.p.now c.args.levels) inner c.in-For.test) (scoped (statements c.args.p.now (calls_to c.args.p.now c.args.levels) nowhere c.in-For.body)) (step_of c.args.p.now (calls_to c.args.p.now c.args.levels) nowhere (Some c.in-For.next))) (length c.args.locals.now) (effect c.args.p.now (calls_to c.args.p.now c.args.levels) nowhere c.in-For.first.form c.args.locals.now c.args.world.now) c.in_ok-statement-in-For.field-0 c.in_ok-e-in-For.e c.statement.new.locals c.turns-in-For.new.locals c.keep.new.locals c.statement.new.world c.turns-in-For.new.world
-    (subst (λ (x : Stmt). Goes (effect c.args.p.now (calls_to c.args.p.now c.args.levels) nowhere x.form c.args.locals.now c.args.world.now) (Ok c.in_ok-statement-in-For.field-0) c.statement.new.locals c.statement.new.world) c.get.ensures c.in_ok-statement-in-For.ensures.goes) (subst (λ (x : Stmt). Goes (loop (λ inner. value_of c.args.p.now (calls_to c.args.p.now c.args.levels) inner c.in-For.test) (scoped (statements c.args.p.now (calls_to c.args.p.now c.args.levels) nowhere c.in-For.body)) (step_of c.args.p.now (calls_to c.args.p.now c.args.levels) nowhere (Some x)) c.statement.new.locals c.statement.new.world) (Ok c.in_ok-e-in-For.e) c.turns-in-For.new.locals c.turns-in-For.new.world) c.get-in-For.ensures c.in_ok-e-in-For.ensures.goes) (rw (← c.len-outer.ensures) c.keep.ensures)
+    ∙ loop_gives c.args.p.now (calls_to c.args.p.now c.args.levels) nowhere (loop (λ inner. value_of c.args.p.now (calls_to c.args.p.now c.args.levels) inner c.in-For.test)
+    (scoped (statements c.args.p.now (calls_to c.args.p.now c.args.levels) nowhere c.in-For.body)) (step_of c.args.p.now (calls_to c.args.p.now c.args.levels) nowhere (Some c.in-For.next)))
+    (length c.args.locals.now) (effect c.args.p.now (calls_to c.args.p.now c.args.levels) nowhere c.in-For.first.form c.args.locals.now c.args.world.now) c.in_ok-statement-in-For.field-0
+    c.in_ok-e-in-For.e c.statement.new.locals c.turns-in-For.new.locals c.keep.new.locals c.statement.new.world c.turns-in-For.new.world
+    (subst (λ (x : Stmt). Goes (effect c.args.p.now (calls_to c.args.p.now c.args.levels) nowhere x.form c.args.locals.now c.args.world.now) (Ok c.in_ok-statement-in-For.field-0)
+    c.statement.new.locals c.statement.new.world) c.get.ensures c.in_ok-statement-in-For.ensures.goes)
+    (subst (λ (x : Stmt). Goes (loop (λ inner. value_of c.args.p.now (calls_to c.args.p.now c.args.levels) inner c.in-For.test)
+    (scoped (statements c.args.p.now (calls_to c.args.p.now c.args.levels) nowhere c.in-For.body)) (step_of c.args.p.now (calls_to c.args.p.now c.args.levels) nowhere (Some x))
+    c.statement.new.locals c.statement.new.world) (Ok c.in_ok-e-in-For.e) c.turns-in-For.new.locals c.turns-in-For.new.world) c.get-in-For.ensures c.in_ok-e-in-For.ensures.goes)
+    (rw (← c.len-outer.ensures) c.keep.ensures)
 
 -- ---- the turns of a loop
 
@@ -185,45 +224,83 @@ pub turns-returns-in_err-v-clause-goes : goal.turns-returns-in_err-v-clause-goes
 turns-returns-in_err-v-clause-goes t c =
     let p = err_from_is_err_and c.from_residual.result c.from_residual.ensures.1 in
     rw (p.1, p.2) (subst (λ o. Goes o (Err c.in_err-v.field-0.0) c.loop-v.locals c.value.new.world) c.loop-v.invariant.0.1.1
-    (test_stops (λ inner. value_of c.args.p.now (calls_to c.args.p.now c.args.levels) inner c.args.test.now) (scoped (statements c.args.p.now (calls_to c.args.p.now c.args.levels) nowhere c.args.body.now)) (step_of c.args.p.now (calls_to c.args.p.now c.args.levels) nowhere (option_copied c.args.next)) c.loop-v.invariant.0.0 c.loop-v.locals c.loop-v.locals c.loop-v.world c.value.new.world c.in_err-v.field-0.0 c.in_err-v.ensures.follows))
+    (test_stops (λ inner. value_of c.args.p.now (calls_to c.args.p.now c.args.levels) inner c.args.test.now)
+    (scoped (statements c.args.p.now (calls_to c.args.p.now c.args.levels) nowhere c.args.body.now))
+    (step_of c.args.p.now (calls_to c.args.p.now c.args.levels) nowhere (option_copied c.args.next)) c.loop-v.invariant.0.0 c.loop-v.locals c.loop-v.locals c.loop-v.world c.value.new.world
+    c.in_err-v.field-0.0 c.in_err-v.ensures.follows))
 
 pub turns-returns-then-not-truth_in-clause-goes : goal.turns-returns-then-not-truth_in-clause-goes
 turns-returns-then-not-truth_in-clause-goes t c =
-    sym c.loop-v.invariant.0.1.1 ∙ test_false (λ inner. value_of c.args.p.now (calls_to c.args.p.now c.args.levels) inner c.args.test.now) (scoped (statements c.args.p.now (calls_to c.args.p.now c.args.levels) nowhere c.args.body.now)) (step_of c.args.p.now (calls_to c.args.p.now c.args.levels) nowhere (option_copied c.args.next)) c.loop-v.invariant.0.0 c.loop-v.locals c.loop-v.world c.value.new.world c.in_ok-v.v c.in_ok-v.ensures.follows (sym c.if-not-truth_in.ensures)
+    sym c.loop-v.invariant.0.1.1 ∙ test_false (λ inner. value_of c.args.p.now (calls_to c.args.p.now c.args.levels) inner c.args.test.now)
+    (scoped (statements c.args.p.now (calls_to c.args.p.now c.args.levels) nowhere c.args.body.now))
+    (step_of c.args.p.now (calls_to c.args.p.now c.args.levels) nowhere (option_copied c.args.next)) c.loop-v.invariant.0.0 c.loop-v.locals c.loop-v.world c.value.new.world c.in_ok-v.v
+    c.in_ok-v.ensures.follows (sym c.if-not-truth_in.ensures)
 
 pub turns-returns-in_err-block-clause-goes : goal.turns-returns-in_err-block-clause-goes
 turns-returns-in_err-block-clause-goes t c =
     let p = err_from_is_err_and c.from_residual-in_err-block.result c.from_residual-in_err-block.ensures.1 in
     rw (p.1, p.2) (subst (λ o. Goes o (Err c.in_err-block.field-0.0) c.block.new.locals c.block.new.world) c.loop-v.invariant.0.1.1
-    (turn_stops (λ inner. value_of c.args.p.now (calls_to c.args.p.now c.args.levels) inner c.args.test.now) (scoped (statements c.args.p.now (calls_to c.args.p.now c.args.levels) nowhere c.args.body.now)) (step_of c.args.p.now (calls_to c.args.p.now c.args.levels) nowhere (option_copied c.args.next)) c.loop-v.invariant.0.0 c.loop-v.locals c.block.new.locals c.block.new.locals c.loop-v.world c.value.new.world c.block.new.world c.in_ok-v.v c.in_err-block.field-0.0 c.in_ok-v.ensures.follows (sym c.if-not-truth_in.ensures) c.in_err-block.ensures.goes))
+    (turn_stops (λ inner. value_of c.args.p.now (calls_to c.args.p.now c.args.levels) inner c.args.test.now)
+    (scoped (statements c.args.p.now (calls_to c.args.p.now c.args.levels) nowhere c.args.body.now))
+    (step_of c.args.p.now (calls_to c.args.p.now c.args.levels) nowhere (option_copied c.args.next)) c.loop-v.invariant.0.0 c.loop-v.locals c.block.new.locals c.block.new.locals c.loop-v.world
+    c.value.new.world c.block.new.world c.in_ok-v.v c.in_err-block.field-0.0 c.in_ok-v.ensures.follows (sym c.if-not-truth_in.ensures) c.in_err-block.ensures.goes))
 
 pub turns-returns-in-Break-clause-goes : goal.turns-returns-in-Break-clause-goes
 turns-returns-in-Break-clause-goes t c =
-    sym c.loop-v.invariant.0.1.1 ∙ turn_gives (λ inner. value_of c.args.p.now (calls_to c.args.p.now c.args.levels) inner c.args.test.now) (scoped (statements c.args.p.now (calls_to c.args.p.now c.args.levels) nowhere c.args.body.now)) (step_of c.args.p.now (calls_to c.args.p.now c.args.levels) nowhere (option_copied c.args.next)) c.loop-v.invariant.0.0 c.loop-v.locals c.loop-v.world c.value.new.world c.block.new.world c.in_ok-v.v (c.in_ok-block.field-0, c.block.new.locals) c.in_ok-v.ensures.follows (sym c.if-not-truth_in.ensures) c.in_ok-block.ensures.goes
-    ∙ ap (λ e. after_body (e, c.block.new.locals) (λ inner. (step_of c.args.p.now (calls_to c.args.p.now c.args.levels) nowhere (option_copied c.args.next)) inner >>= again (λ inner. value_of c.args.p.now (calls_to c.args.p.now c.args.levels) inner c.args.test.now) (scoped (statements c.args.p.now (calls_to c.args.p.now c.args.levels) nowhere c.args.body.now)) (step_of c.args.p.now (calls_to c.args.p.now c.args.levels) nowhere (option_copied c.args.next)) c.loop-v.invariant.0.0) c.block.new.world) c.in-Break.is
+    sym c.loop-v.invariant.0.1.1 ∙ turn_gives (λ inner. value_of c.args.p.now (calls_to c.args.p.now c.args.levels) inner c.args.test.now)
+    (scoped (statements c.args.p.now (calls_to c.args.p.now c.args.levels) nowhere c.args.body.now))
+    (step_of c.args.p.now (calls_to c.args.p.now c.args.levels) nowhere (option_copied c.args.next)) c.loop-v.invariant.0.0 c.loop-v.locals c.loop-v.world c.value.new.world c.block.new.world
+    c.in_ok-v.v (c.in_ok-block.field-0, c.block.new.locals) c.in_ok-v.ensures.follows (sym c.if-not-truth_in.ensures) c.in_ok-block.ensures.goes
+    ∙ ap (λ e. after_body (e, c.block.new.locals) (λ inner. (step_of c.args.p.now (calls_to c.args.p.now c.args.levels) nowhere (option_copied c.args.next)) inner >>= again
+    (λ inner. value_of c.args.p.now (calls_to c.args.p.now c.args.levels) inner c.args.test.now) (scoped (statements c.args.p.now (calls_to c.args.p.now c.args.levels) nowhere c.args.body.now))
+    (step_of c.args.p.now (calls_to c.args.p.now c.args.levels) nowhere (option_copied c.args.next)) c.loop-v.invariant.0.0) c.block.new.world) c.in-Break.is
 
 pub turns-returns-in-Return-clause-goes : goal.turns-returns-in-Return-clause-goes
 turns-returns-in-Return-clause-goes t c =
-    sym c.loop-v.invariant.0.1.1 ∙ turn_gives (λ inner. value_of c.args.p.now (calls_to c.args.p.now c.args.levels) inner c.args.test.now) (scoped (statements c.args.p.now (calls_to c.args.p.now c.args.levels) nowhere c.args.body.now)) (step_of c.args.p.now (calls_to c.args.p.now c.args.levels) nowhere (option_copied c.args.next)) c.loop-v.invariant.0.0 c.loop-v.locals c.loop-v.world c.value.new.world c.block.new.world c.in_ok-v.v (c.in_ok-block.field-0, c.block.new.locals) c.in_ok-v.ensures.follows (sym c.if-not-truth_in.ensures) c.in_ok-block.ensures.goes
-    ∙ ap (λ e. after_body (e, c.block.new.locals) (λ inner. (step_of c.args.p.now (calls_to c.args.p.now c.args.levels) nowhere (option_copied c.args.next)) inner >>= again (λ inner. value_of c.args.p.now (calls_to c.args.p.now c.args.levels) inner c.args.test.now) (scoped (statements c.args.p.now (calls_to c.args.p.now c.args.levels) nowhere c.args.body.now)) (step_of c.args.p.now (calls_to c.args.p.now c.args.levels) nowhere (option_copied c.args.next)) c.loop-v.invariant.0.0) c.block.new.world) c.in-Return.is
+    sym c.loop-v.invariant.0.1.1 ∙ turn_gives (λ inner. value_of c.args.p.now (calls_to c.args.p.now c.args.levels) inner c.args.test.now)
+    (scoped (statements c.args.p.now (calls_to c.args.p.now c.args.levels) nowhere c.args.body.now))
+    (step_of c.args.p.now (calls_to c.args.p.now c.args.levels) nowhere (option_copied c.args.next)) c.loop-v.invariant.0.0 c.loop-v.locals c.loop-v.world c.value.new.world c.block.new.world
+    c.in_ok-v.v (c.in_ok-block.field-0, c.block.new.locals) c.in_ok-v.ensures.follows (sym c.if-not-truth_in.ensures) c.in_ok-block.ensures.goes
+    ∙ ap (λ e. after_body (e, c.block.new.locals) (λ inner. (step_of c.args.p.now (calls_to c.args.p.now c.args.levels) nowhere (option_copied c.args.next)) inner >>= again
+    (λ inner. value_of c.args.p.now (calls_to c.args.p.now c.args.levels) inner c.args.test.now) (scoped (statements c.args.p.now (calls_to c.args.p.now c.args.levels) nowhere c.args.body.now))
+    (step_of c.args.p.now (calls_to c.args.p.now c.args.levels) nowhere (option_copied c.args.next)) c.loop-v.invariant.0.0) c.block.new.world) c.in-Return.is
 
 pub turns-returns-in_err-step-clause-goes : goal.turns-returns-in_err-step-clause-goes
 turns-returns-in_err-step-clause-goes t c =
     let p = err_from_is_err_and c.from_residual-in_err-step.result c.from_residual-in_err-step.ensures.1 in
-    rw (p.1, p.2) (step_stops (λ inner. value_of c.args.p.now (calls_to c.args.p.now c.args.levels) inner c.args.test.now) (scoped (statements c.args.p.now (calls_to c.args.p.now c.args.levels) nowhere c.args.body.now)) (step_of c.args.p.now (calls_to c.args.p.now c.args.levels) nowhere (option_copied c.args.next)) c.loop-v.invariant.0.0 c.block.new.locals c.step.new.locals c.step.new.locals _ c.block.new.world c.step.new.world c.in_err-step.field-0.0 (sym (sym (to_step (λ inner. value_of c.args.p.now (calls_to c.args.p.now c.args.levels) inner c.args.test.now) (scoped (statements c.args.p.now (calls_to c.args.p.now c.args.levels) nowhere c.args.body.now)) (step_of c.args.p.now (calls_to c.args.p.now c.args.levels) nowhere (option_copied c.args.next)) c.loop-v.invariant.0.0 c.loop-v.locals c.block.new.locals c.loop-v.world c.value.new.world c.block.new.world c.in_ok-v.v c.in_ok-block.field-0 c.in_ok-v.ensures.follows (sym c.if-not-truth_in.ensures) c.in_ok-block.ensures.goes c.in-Normal.is) ∙ c.loop-v.invariant.0.1.1)) c.in_err-step.ensures.follows)
+    rw (p.1, p.2) (step_stops (λ inner. value_of c.args.p.now (calls_to c.args.p.now c.args.levels) inner c.args.test.now)
+    (scoped (statements c.args.p.now (calls_to c.args.p.now c.args.levels) nowhere c.args.body.now))
+    (step_of c.args.p.now (calls_to c.args.p.now c.args.levels) nowhere (option_copied c.args.next)) c.loop-v.invariant.0.0 c.block.new.locals c.step.new.locals c.step.new.locals _
+    c.block.new.world c.step.new.world c.in_err-step.field-0.0 (sym (sym (to_step (λ inner. value_of c.args.p.now (calls_to c.args.p.now c.args.levels) inner c.args.test.now)
+    (scoped (statements c.args.p.now (calls_to c.args.p.now c.args.levels) nowhere c.args.body.now))
+    (step_of c.args.p.now (calls_to c.args.p.now c.args.levels) nowhere (option_copied c.args.next)) c.loop-v.invariant.0.0 c.loop-v.locals c.block.new.locals c.loop-v.world c.value.new.world
+    c.block.new.world c.in_ok-v.v c.in_ok-block.field-0 c.in_ok-v.ensures.follows (sym c.if-not-truth_in.ensures) c.in_ok-block.ensures.goes c.in-Normal.is) ∙ c.loop-v.invariant.0.1.1))
+    c.in_err-step.ensures.follows)
 
 pub turns-returns-in_err-take_unit-clause-goes : goal.turns-returns-in_err-take_unit-clause-goes
 turns-returns-in_err-take_unit-clause-goes t c =
     let p = err_from_is_err_and c.from_residual-in_err-take_unit.result c.from_residual-in_err-take_unit.ensures.1 in
     let le : c.step.new.world.fuel ≤ c.loop-v.invariant.0.0 = omega (arith, c.loop-v.invariant.0.1.0, c.value.ensures.fuel, c.block.ensures.fuel, c.step.ensures.fuel) in
     rw (p.1, p.2) (subst (λ o. Goes o (Err c.in_err-take_unit.field-0.0) c.step.new.locals c.take_unit.new.world)
-    (sym (ap (λ o. and_then o (again (λ inner. value_of c.args.p.now (calls_to c.args.p.now c.args.levels) inner c.args.test.now) (scoped (statements c.args.p.now (calls_to c.args.p.now c.args.levels) nowhere c.args.body.now)) (step_of c.args.p.now (calls_to c.args.p.now c.args.levels) nowhere (option_copied c.args.next)) c.loop-v.invariant.0.0)) c.in_ok-step.ensures.follows) ∙ (sym (to_step (λ inner. value_of c.args.p.now (calls_to c.args.p.now c.args.levels) inner c.args.test.now) (scoped (statements c.args.p.now (calls_to c.args.p.now c.args.levels) nowhere c.args.body.now)) (step_of c.args.p.now (calls_to c.args.p.now c.args.levels) nowhere (option_copied c.args.next)) c.loop-v.invariant.0.0 c.loop-v.locals c.block.new.locals c.loop-v.world c.value.new.world c.block.new.world c.in_ok-v.v c.in_ok-block.field-0 c.in_ok-v.ensures.follows (sym c.if-not-truth_in.ensures) c.in_ok-block.ensures.goes c.in-Normal.is) ∙ c.loop-v.invariant.0.1.1))
-    (unit_stops (λ inner. value_of c.args.p.now (calls_to c.args.p.now c.args.levels) inner c.args.test.now) (scoped (statements c.args.p.now (calls_to c.args.p.now c.args.levels) nowhere c.args.body.now)) (step_of c.args.p.now (calls_to c.args.p.now c.args.levels) nowhere (option_copied c.args.next)) c.loop-v.invariant.0.0 c.step.new.locals c.step.new.locals c.step.new.world c.take_unit.new.world c.in_err-take_unit.field-0.0 le c.in_err-take_unit.ensures.follows))
+    (sym (ap (λ o. and_then o (again (λ inner. value_of c.args.p.now (calls_to c.args.p.now c.args.levels) inner c.args.test.now)
+    (scoped (statements c.args.p.now (calls_to c.args.p.now c.args.levels) nowhere c.args.body.now))
+    (step_of c.args.p.now (calls_to c.args.p.now c.args.levels) nowhere (option_copied c.args.next)) c.loop-v.invariant.0.0)) c.in_ok-step.ensures.follows)
+    ∙ (sym (to_step (λ inner. value_of c.args.p.now (calls_to c.args.p.now c.args.levels) inner c.args.test.now)
+    (scoped (statements c.args.p.now (calls_to c.args.p.now c.args.levels) nowhere c.args.body.now))
+    (step_of c.args.p.now (calls_to c.args.p.now c.args.levels) nowhere (option_copied c.args.next)) c.loop-v.invariant.0.0 c.loop-v.locals c.block.new.locals c.loop-v.world c.value.new.world
+    c.block.new.world c.in_ok-v.v c.in_ok-block.field-0 c.in_ok-v.ensures.follows (sym c.if-not-truth_in.ensures) c.in_ok-block.ensures.goes c.in-Normal.is) ∙ c.loop-v.invariant.0.1.1))
+    (unit_stops (λ inner. value_of c.args.p.now (calls_to c.args.p.now c.args.levels) inner c.args.test.now)
+    (scoped (statements c.args.p.now (calls_to c.args.p.now c.args.levels) nowhere c.args.body.now))
+    (step_of c.args.p.now (calls_to c.args.p.now c.args.levels) nowhere (option_copied c.args.next)) c.loop-v.invariant.0.0 c.step.new.locals c.step.new.locals c.step.new.world
+    c.take_unit.new.world c.in_err-take_unit.field-0.0 le c.in_err-take_unit.ensures.follows))
 
 pub turns-loop-v-preserved : goal.turns-loop-v-preserved
 turns-loop-v-preserved t c =
     let le : c.step.new.world.fuel ≤ c.loop-v.invariant.0.0 = omega (arith, c.loop-v.invariant.0.1.0, c.value.ensures.fuel, c.block.ensures.fuel, c.step.ensures.fuel) in
-    let u = unit_taken (λ inner. value_of c.args.p.now (calls_to c.args.p.now c.args.levels) inner c.args.test.now) (scoped (statements c.args.p.now (calls_to c.args.p.now c.args.levels) nowhere c.args.body.now)) (step_of c.args.p.now (calls_to c.args.p.now c.args.levels) nowhere (option_copied c.args.next)) c.loop-v.invariant.0.0 c.step.new.locals c.step.new.world c.take_unit.new.world le c.in_ok-take_unit.ensures.follows c.in_ok-take_unit.ensures.fuel in (
+    let u = unit_taken (λ inner. value_of c.args.p.now (calls_to c.args.p.now c.args.levels) inner c.args.test.now)
+    (scoped (statements c.args.p.now (calls_to c.args.p.now c.args.levels) nowhere c.args.body.now))
+    (step_of c.args.p.now (calls_to c.args.p.now c.args.levels) nowhere (option_copied c.args.next)) c.loop-v.invariant.0.0 c.step.new.locals c.step.new.world c.take_unit.new.world le
+    c.in_ok-take_unit.ensures.follows c.in_ok-take_unit.ensures.fuel in (
       (u.0, (u.1.0, u.1.1 ∙ sym (ap (λ o. and_then o (again (λ inner. value_of c.args.p.now (calls_to c.args.p.now c.args.levels) inner c.args.test.now) (scoped (statements c.args.p.now (calls_to c.args.p.now c.args.levels) nowhere c.args.body.now)) (step_of c.args.p.now (calls_to c.args.p.now c.args.levels) nowhere (option_copied c.args.next)) c.loop-v.invariant.0.0)) c.in_ok-step.ensures.follows) ∙ (sym (to_step (λ inner. value_of c.args.p.now (calls_to c.args.p.now c.args.levels) inner c.args.test.now) (scoped (statements c.args.p.now (calls_to c.args.p.now c.args.levels) nowhere c.args.body.now)) (step_of c.args.p.now (calls_to c.args.p.now c.args.levels) nowhere (option_copied c.args.next)) c.loop-v.invariant.0.0 c.loop-v.locals c.block.new.locals c.loop-v.world c.value.new.world c.block.new.world c.in_ok-v.v c.in_ok-block.field-0 c.in_ok-v.ensures.follows (sym c.if-not-truth_in.ensures) c.in_ok-block.ensures.goes c.in-Normal.is) ∙ c.loop-v.invariant.0.1.1))),
       (omega (arith, c.loop-v.invariant.1.0, c.value.ensures.fuel, c.block.ensures.fuel, c.step.ensures.fuel, c.in_ok-take_unit.ensures.fuel), c.take_unit.ensures.stays ∙ c.step.ensures.stays ∙ c.block.ensures.stays ∙ c.value.ensures.stays ∙ c.loop-v.invariant.1.1),
     )

@@ -66,8 +66,11 @@ invariant-choose-loop-arm l =
 abbrev pub invariant-turns-loop-v : goal.invariant-turns-loop-v
 invariant-turns-loop-v l =
     ((n : ℕ) × ((l.world.fuel ≤ n)
-    × (effects.turns n (λ inner. spec.value_of l.p (effects.calls_to l.p l.levels) inner l.test) (effects.scoped (effects.statements l.p (effects.calls_to l.p l.levels) effects.nowhere l.body)) (effects.step_of l.p (effects.calls_to l.p l.levels) effects.nowhere (option_copied l.next)) l.locals l.world
-    ≡ effects.loop (λ inner. spec.value_of l.fn.p (effects.calls_to l.fn.p l.fn.levels) inner l.fn.test) (effects.scoped (effects.statements l.fn.p (effects.calls_to l.fn.p l.fn.levels) effects.nowhere l.fn.body)) (effects.step_of l.fn.p (effects.calls_to l.fn.p l.fn.levels) effects.nowhere (option_copied l.fn.next)) l.fn.locals l.fn.world)))
+    × (effects.turns n (λ inner. spec.value_of l.p (effects.calls_to l.p l.levels) inner l.test) (effects.scoped (effects.statements l.p (effects.calls_to l.p l.levels) effects.nowhere l.body))
+    (effects.step_of l.p (effects.calls_to l.p l.levels) effects.nowhere (option_copied l.next)) l.locals l.world
+    ≡ effects.loop (λ inner. spec.value_of l.fn.p (effects.calls_to l.fn.p l.fn.levels) inner l.fn.test)
+    (effects.scoped (effects.statements l.fn.p (effects.calls_to l.fn.p l.fn.levels) effects.nowhere l.fn.body))
+    (effects.step_of l.fn.p (effects.calls_to l.fn.p l.fn.levels) effects.nowhere (option_copied l.fn.next)) l.fn.locals l.fn.world)))
     × ((l.world.fuel ≤ l.fn.world.fuel) × (stays l.world ≡ stays l.fn.world))
 
 abbrev pub decreases-turns-loop-v : goal.decreases-turns-loop-v

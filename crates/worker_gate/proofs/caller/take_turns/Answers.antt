@@ -44,7 +44,8 @@ turn-requires-clause-arrivals g c =
 pub loop-taken-preserved : goal.loop-taken-preserved
 loop-taken-preserved g c =
     let job = c.args.job.now in
-    let t = turned g.N.JobName.job c.loop-taken.core c.turn.new.core (completed g.N.JobName.job c.args.core.now) c.turn.result job.n c.loop-taken.taken c.if-not-turn.false c.turn.ensures.took c.loop-taken-test.true c.loop-taken.invariant.left in
+    let t = turned g.N.JobName.job c.loop-taken.core c.turn.new.core (completed g.N.JobName.job c.args.core.now) c.turn.result job.n c.loop-taken.taken c.if-not-turn.false c.turn.ensures.took
+    c.loop-taken-test.true c.loop-taken.invariant.left in
     let tally = c.args.worker.now.tally in
     let pages : ℕ = c.turn.new.worker.tally.pages in
     record {
@@ -64,20 +65,24 @@ loop-taken-preserved g c =
 pub returns-then-not-turn-clause-complete : goal.returns-then-not-turn-clause-complete
 returns-then-not-turn-clause-complete g c =
     let job = c.args.job.now in
-    let e = ended g.N.JobName.job c.loop-taken.core c.turn.new.core (completed g.N.JobName.job c.args.core.now) c.turn.result job.n c.loop-taken.taken c.if-not-turn.true c.turn.ensures.took c.loop-taken-test.true c.loop-taken.invariant.left in
-    whole_complete g.N.JobName.job c.args.core.now c.turn.new.core c.history-legal.ensures.legal c.requires.alone (omega (arith, job.few, job.all, ap size_of job.named, size_is job.code.now job.fuel job.step job.image.now.memory job.first_block job.widths.now job.there)) e.1
+    let e = ended g.N.JobName.job c.loop-taken.core c.turn.new.core (completed g.N.JobName.job c.args.core.now) c.turn.result job.n c.loop-taken.taken c.if-not-turn.true c.turn.ensures.took
+    c.loop-taken-test.true c.loop-taken.invariant.left in
+    whole_complete g.N.JobName.job c.args.core.now c.turn.new.core c.history-legal.ensures.legal c.requires.alone
+    (omega (arith, job.few, job.all, ap size_of job.named, size_is job.code.now job.fuel job.step job.image.now.memory job.first_block job.widths.now job.there)) e.1
 
 pub returns-then-not-turn-clause-few : goal.returns-then-not-turn-clause-few
 returns-then-not-turn-clause-few g c =
     let job = c.args.job.now in
-    let e = ended g.N.JobName.job c.loop-taken.core c.turn.new.core (completed g.N.JobName.job c.args.core.now) c.turn.result job.n c.loop-taken.taken c.if-not-turn.true c.turn.ensures.took c.loop-taken-test.true c.loop-taken.invariant.left in
+    let e = ended g.N.JobName.job c.loop-taken.core c.turn.new.core (completed g.N.JobName.job c.args.core.now) c.turn.result job.n c.loop-taken.taken c.if-not-turn.true c.turn.ensures.took
+    c.loop-taken-test.true c.loop-taken.invariant.left in
     omega (arith, ap (λ (h : History). claims_by is_caller h) e.0, c.loop-taken.invariant.claims, c.loop-taken-test.true, job.all, ap size_of job.named, size_is job.code.now job.fuel job.step job.image.now.memory job.first_block job.widths.now job.there)
 
 pub returns-clause-complete : goal.returns-clause-complete
 returns-clause-complete g c =
     let job = c.args.job.now in
     let past : job.n - c.loop-taken.taken ≡ 0 = omega (arith, c.loop-taken-test.false) in
-    whole_complete g.N.JobName.job c.args.core.now c.loop-taken.core c.history-legal.ensures.legal c.requires.alone (omega (arith, job.few, job.all, ap size_of job.named, size_is job.code.now job.fuel job.step job.image.now.memory job.first_block job.widths.now job.there))
+    whole_complete g.N.JobName.job c.args.core.now c.loop-taken.core c.history-legal.ensures.legal c.requires.alone
+    (omega (arith, job.few, job.all, ap size_of job.named, size_is job.code.now job.fuel job.step job.image.now.memory job.first_block job.widths.now job.there))
     (ap (λ (k : ℕ). with_pairs k g.N.JobName.job c.loop-taken.core) (sym past) ∙ c.loop-taken.invariant.left)
 
 pub returns-clause-few : goal.returns-clause-few

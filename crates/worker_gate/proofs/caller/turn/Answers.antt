@@ -9,7 +9,8 @@ deliver-requires-clause-number g c = claimed_within g.N.JobName.job c.args.core.
 
 pub returns-clause-took : goal.returns-clause-took
 returns-clause-took g c =
-    took_pair g.N.JobName.job c.args.core.now c.claim.new.self c.deliver.new.core c.in-Work.k c.in-Work.k c.deliver.result c.in-Work.ensures.answer c.in-Work.ensures.history refl c.deliver.ensures.verdict c.deliver.ensures.history
+    took_pair g.N.JobName.job c.args.core.now c.claim.new.self c.deliver.new.core c.in-Work.k c.in-Work.k c.deliver.result c.in-Work.ensures.answer c.in-Work.ensures.history refl
+    c.deliver.ensures.verdict c.deliver.ensures.history
 
 pub returns-clause-may : goal.returns-clause-may
 returns-clause-may g c =

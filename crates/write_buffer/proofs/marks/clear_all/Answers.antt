@@ -5,7 +5,8 @@ use Rattle.write_buffer.proofs.marks.clear_all.Goals as goal
 pub loop-p-preserved : goal.loop-p-preserved
 loop-p-preserved c = record {
   clearing =
-      clearing_more (length c.args.masks.now.items) (length c.args.pages.now.items) c.loop-p.masks.items c.loop-p.pages.items c.loop-p.touched.items c.pop.new.self.items c.in-Some.p c.loop-p.invariant.clearing c.in-Some.ensures.items;
+      clearing_more (length c.args.masks.now.items) (length c.args.pages.now.items) c.loop-p.masks.items c.loop-p.pages.items c.loop-p.touched.items c.pop.new.self.items c.in-Some.p
+      c.loop-p.invariant.clearing c.in-Some.ensures.items;
   capacity = c.pop.ensures.capacity ∙ c.loop-p.invariant.capacity;
 }
 

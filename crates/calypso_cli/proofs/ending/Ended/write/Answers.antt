@@ -10,7 +10,8 @@ use Rattle.calypso_cli.proofs.ending.Ended.write.Goals as goal
 pub returns-in-Some-clause-err : goal.returns-in-Some-clause-err
 returns-in-Some-clause-err g c =
     on_err c.report_lines.result
-    (λ h. front_behind_text (g.E.Sink.written c.args.err.now) (g.E.Sink.written c.write.new.err) (g.E.Sink.written c.report_lines.new.err) (err_text (ending_seen c.args.self.now.ending)) (report_seen c.args.self.now.report)
+    (λ h. front_behind_text (g.E.Sink.written c.args.err.now) (g.E.Sink.written c.write.new.err) (g.E.Sink.written c.report_lines.new.err) (err_text (ending_seen c.args.self.now.ending))
+    (report_seen c.args.self.now.report)
     c.in_ok-write.ensures.ok
     (subst (AppendsPrefix (g.E.Sink.written c.write.new.err) (g.E.Sink.written c.report_lines.new.err)) (ap report_text c.as_slice.ensures ∙ sym (ap report_seen c.in-Some.is)) h))
     c.report_lines.ensures.err

@@ -11,4 +11,5 @@ index_mut-requires-2 c = omega (arith, after_there _ _ _ _ _ c.self.view_is c.se
 pub invariant_of-self : goal.invariant_of-self
 invariant_of-self c =
     let size : c.len-n.result ≡ length c.self.inside.claims.items = omega arith in
-    drop_at _ _ _ _ _ c.self.view_is c.self.invariant c.args.k _ _ c.requires.wanted c.index-before.ensures c.index-after.ensures c.len-n.result _ _ size c.index.ensures c.cursor_after-self-inside.ensures c.requires.last
+    drop_at _ _ _ _ _ c.self.view_is c.self.invariant c.args.k _ _ c.requires.wanted c.index-before.ensures c.index-after.ensures c.len-n.result _ _ size c.index.ensures
+    c.cursor_after-self-inside.ensures c.requires.last

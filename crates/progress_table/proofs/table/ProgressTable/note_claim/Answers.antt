@@ -13,7 +13,8 @@ index_mut-requires c = omega (arith, least_within _ _ _ _ _ c.self.view_is c.sel
 pub overflow_add-index_mut : goal.overflow_add-index_mut
 overflow_add-index_mut c =
     let within : c.args.k < length c.self.inside.claims.items = least_within _ _ _ _ _ c.self.view_is c.self.invariant c.args.k c.requires.least in
-    let le : get_or c.self.inside.claims.items c.args.k c.index_mut.result.now ≤ sum c.self.inside.claims.items = get_or-le-sum_by (λ y. y) c.self.inside.claims.items c.args.k c.index_mut.result.now within in
+    let le : get_or c.self.inside.claims.items c.args.k c.index_mut.result.now ≤ sum c.self.inside.claims.items = get_or-le-sum_by (λ y. y) c.self.inside.claims.items c.args.k c.index_mut.result.now
+    within in
     record { fits = omega (arith, le, c.requires.room, ap (λ t. sum t.claims) c.self.view_is, c.index_mut.ensures.value) }
 
 pub invariant_of-self : goal.invariant_of-self

@@ -13,7 +13,8 @@ pub show-requires-clause-there : goal.show-requires-clause-there
 show-requires-clause-there c =
     let m = c.args.m.now in
     let stands : slice_get m.main.instrs c.args.self.now.call.place ≡ Some (i.Print c.as_slice.result.now) =
-    ap (λ (h : Held). slice_get m.main.instrs h.call.place) (sym c.self.view_is) ∙ sym c.in-Some-Print.ensures.value ∙ ap (λ (x : Instr). Some x) c.in-Some-Print.field-0-is ∙ ap (λ (l : List PrintItem). Some (i.Print l)) (sym c.as_slice.ensures)
+    ap (λ (h : Held). slice_get m.main.instrs h.call.place) (sym c.self.view_is) ∙ sym c.in-Some-Print.ensures.value ∙ ap (λ (x : Instr). Some x) c.in-Some-Print.field-0-is
+    ∙ ap (λ (l : List PrintItem). Some (i.Print l)) (sym c.as_slice.ensures)
     in
     line_there m c.requires.verified c.args.self.now c.requires.may c.as_slice.result.now stands
 
@@ -21,7 +22,8 @@ pub show-requires-clause-few : goal.show-requires-clause-few
 show-requires-clause-few c =
     let m = c.args.m.now in
     let stands : slice_get m.main.instrs c.args.self.now.call.place ≡ Some (i.Print c.as_slice.result.now) =
-    ap (λ (h : Held). slice_get m.main.instrs h.call.place) (sym c.self.view_is) ∙ sym c.in-Some-Print.ensures.value ∙ ap (λ (x : Instr). Some x) c.in-Some-Print.field-0-is ∙ ap (λ (l : List PrintItem). Some (i.Print l)) (sym c.as_slice.ensures)
+    ap (λ (h : Held). slice_get m.main.instrs h.call.place) (sym c.self.view_is) ∙ sym c.in-Some-Print.ensures.value ∙ ap (λ (x : Instr). Some x) c.in-Some-Print.field-0-is
+    ∙ ap (λ (l : List PrintItem). Some (i.Print l)) (sym c.as_slice.ensures)
     in
     line_short m c.requires.verified c.args.self.now c.requires.may c.as_slice.result.now stands
 
@@ -31,7 +33,8 @@ returns-in-Some-Print-clause-told c =
     let h = c.args.self.now in
     let later = c.show.new.self in
     let stands : slice_get m.main.instrs h.call.place ≡ Some (i.Print c.as_slice.result.now) =
-    ap (λ (h : Held). slice_get m.main.instrs h.call.place) (sym c.self.view_is) ∙ sym c.in-Some-Print.ensures.value ∙ ap (λ (x : Instr). Some x) c.in-Some-Print.field-0-is ∙ ap (λ (l : List PrintItem). Some (i.Print l)) (sym c.as_slice.ensures)
+    ap (λ (h : Held). slice_get m.main.instrs h.call.place) (sym c.self.view_is) ∙ sym c.in-Some-Print.ensures.value ∙ ap (λ (x : Instr). Some x) c.in-Some-Print.field-0-is
+    ∙ ap (λ (l : List PrintItem). Some (i.Print l)) (sym c.as_slice.ensures)
     in
     let next = shown_next m c.requires.verified h c.requires.may c.as_slice.result.now later (module_memory m) stands c.show.ensures.pieces c.show.ensures.call c.show.ensures.fuel in
     rw c.show.ensures.event (record {

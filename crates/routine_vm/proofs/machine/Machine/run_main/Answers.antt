@@ -36,9 +36,11 @@ returns-in-Event-clause-event c =
     ap (λ (waiting : List Frame). record { call = call_of m c.self.inside.run.call; callers = map (call_of m) waiting; store = Main before; fuel = c.self.inside.run.fuel }) c.self.invariant
     ∙ ap (λ (h : Held). main_state m h before) c.self.view_is
     in
-    let same : outcome_from m (main_state m c.args.self.now before) ≡ outcome_from m (state_of m c.go.new.run (Main c.go.new.words.memory)) = ap (outcome_from m) (sym seen) ∙ c.in-Event.ensures.stopped.0 in
+    let same : outcome_from m (main_state m c.args.self.now before) ≡ outcome_from m (state_of m c.go.new.run (Main c.go.new.words.memory)) = ap (outcome_from m) (sym seen)
+    ∙ c.in-Event.ensures.stopped.0 in
     subst (λ (m : Module). outcome_from m (main_state m c.args.self.now before) ≡ Comes (event_at m c.event.result c.event.new.self c.go.new.words.memory)) c.module-m.ensures.same
-    (event_outcome m ok (main_state m c.args.self.now before) c.go.new.run c.go.new.words.memory c.event.result c.event.new.self c.in-Event.ensures.goes_on none same (c.event.ensures.next c.go.new.words.memory))
+    (event_outcome m ok (main_state m c.args.self.now before) c.go.new.run c.go.new.words.memory c.event.result c.event.new.self c.in-Event.ensures.goes_on none same
+    (c.event.ensures.next c.go.new.words.memory))
 
 pub returns-in-Event-clause-meaning : goal.returns-in-Event-clause-meaning
 returns-in-Event-clause-meaning c =
@@ -51,9 +53,11 @@ returns-in-Event-clause-meaning c =
     ap (λ (waiting : List Frame). record { call = call_of m c.self.inside.run.call; callers = map (call_of m) waiting; store = Main before; fuel = c.self.inside.run.fuel }) c.self.invariant
     ∙ ap (λ (h : Held). main_state m h before) c.self.view_is
     in
-    let same : outcome_from m (main_state m c.args.self.now before) ≡ outcome_from m (state_of m c.go.new.run (Main c.go.new.words.memory)) = ap (outcome_from m) (sym seen) ∙ c.in-Event.ensures.stopped.0 in
+    let same : outcome_from m (main_state m c.args.self.now before) ≡ outcome_from m (state_of m c.go.new.run (Main c.go.new.words.memory)) = ap (outcome_from m) (sym seen)
+    ∙ c.in-Event.ensures.stopped.0 in
     let outcome = subst (λ (m : Module). outcome_from m (main_state m c.args.self.now before) ≡ Comes (event_at m c.event.result c.event.new.self c.go.new.words.memory)) c.module-m.ensures.same
-    (event_outcome m ok (main_state m c.args.self.now before) c.go.new.run c.go.new.words.memory c.event.result c.event.new.self c.in-Event.ensures.goes_on none same (c.event.ensures.next c.go.new.words.memory))
+    (event_outcome m ok (main_state m c.args.self.now before) c.go.new.run c.go.new.words.memory c.event.result c.event.new.self c.in-Event.ensures.goes_on none same
+    (c.event.ensures.next c.go.new.words.memory))
     in
     meaning_of_outcome c.args.code.now c.module-m.ensures.verified c.args.self.now c.requires.may before (event_at c.args.code.now c.event.result c.event.new.self c.go.new.words.memory) outcome
 
@@ -65,7 +69,8 @@ returns-in-Ends-clause-meaning c =
     ap (λ (waiting : List Frame). record { call = call_of m c.self.inside.run.call; callers = map (call_of m) waiting; store = Main before; fuel = c.self.inside.run.fuel }) c.self.invariant
     ∙ ap (λ (h : Held). main_state m h before) c.self.view_is
     in
-    let outcome = subst (λ (m : Module). outcome_from m (main_state m c.args.self.now before) ≡ Comes (Ends (Main c.go.new.words.memory) c.go.new.run.fuel)) c.module-m.ensures.same (ap (outcome_from m) (sym seen) ∙ c.in-Ends.ensures.stopped) in
+    let outcome = subst (λ (m : Module). outcome_from m (main_state m c.args.self.now before) ≡ Comes (Ends (Main c.go.new.words.memory) c.go.new.run.fuel)) c.module-m.ensures.same
+    (ap (outcome_from m) (sym seen) ∙ c.in-Ends.ensures.stopped) in
     meaning_of_outcome c.args.code.now c.module-m.ensures.verified c.args.self.now c.requires.may before (Ends (Main c.go.new.words.memory) c.go.new.run.fuel) outcome
 
 pub returns-in-Traps-clause-meaning : goal.returns-in-Traps-clause-meaning
@@ -76,5 +81,6 @@ returns-in-Traps-clause-meaning c =
     ap (λ (waiting : List Frame). record { call = call_of m c.self.inside.run.call; callers = map (call_of m) waiting; store = Main before; fuel = c.self.inside.run.fuel }) c.self.invariant
     ∙ ap (λ (h : Held). main_state m h before) c.self.view_is
     in
-    let outcome = subst (λ (m : Module). outcome_from m (main_state m c.args.self.now before) ≡ Comes (Traps c.in-Traps.cause (Main c.go.new.words.memory) c.go.new.run.fuel)) c.module-m.ensures.same (ap (outcome_from m) (sym seen) ∙ c.in-Traps.ensures.stopped) in
+    let outcome = subst (λ (m : Module). outcome_from m (main_state m c.args.self.now before) ≡ Comes (Traps c.in-Traps.cause (Main c.go.new.words.memory) c.go.new.run.fuel)) c.module-m.ensures.same
+    (ap (outcome_from m) (sym seen) ∙ c.in-Traps.ensures.stopped) in
     meaning_of_outcome c.args.code.now c.module-m.ensures.verified c.args.self.now c.requires.may before (Traps c.in-Traps.cause (Main c.go.new.words.memory) c.go.new.run.fuel) outcome

@@ -16,4 +16,5 @@ returns c =
     let le : n ≤ length xs = omega (arith, c.requires, as_long, same) in
     let left = length-drop (length xs - n) xs in
     let whole : length xs - (length xs - n) ≡ length (drop (length xs - n) xs) = omega (arith, left) in
-    rw (c.deref.ensures.value, len) (ap (λ (k : ℕ). take k (drop (length xs - n) xs)) whole ∙ take-length (drop (length xs - n) xs) ∙ sym (reversed-take-reverse xs n le) ∙ ap (λ (l : List _). reverse (take n l)) view)
+    rw (c.deref.ensures.value, len) (ap (λ (k : ℕ). take k (drop (length xs - n) xs)) whole ∙ take-length (drop (length xs - n) xs) ∙ sym (reversed-take-reverse xs n le)
+    ∙ ap (λ (l : List _). reverse (take n l)) view)

@@ -13,4 +13,5 @@ pub invariant_of-self : goal.invariant_of-self
 invariant_of-self c =
     let i = c.self.inside in
     let same = ap (λ (s : Shelved). s.kept) c.self.view_is in
-    replaced_read i.kept.items c.args.self.now.kept i.marks.items i.places.items i.hand i.kept.cap c.args.i c.args.p c.args.version c.index_mut-kept.result.now same c.index_mut-kept.ensures.value c.self.invariant c.requires.place c.requires.page c.requires.absent
+    replaced_read i.kept.items c.args.self.now.kept i.marks.items i.places.items i.hand i.kept.cap c.args.i c.args.p c.args.version c.index_mut-kept.result.now same c.index_mut-kept.ensures.value
+    c.self.invariant c.requires.place c.requires.page c.requires.absent

@@ -4,4 +4,5 @@ use Rattle.step_board.proofs.board.Board.arrive.Goals as goal
 
 pub invariant_of-self : goal.invariant_of-self
 invariant_of-self g c =
-    counted_as _ _ _ _ _ (counted_arrival c.self.invariant c.args.who c.args.done.now.k c.arrive-verdict.result c.requires.who c.arrive-verdict.ensures.verdict) (sym c.arrive-verdict.ensures.history) refl (sym c.add.ensures.total) refl refl
+    counted_as _ _ _ _ _ (counted_arrival c.self.invariant c.args.who c.args.done.now.k c.arrive-verdict.result c.requires.who c.arrive-verdict.ensures.verdict) (sym c.arrive-verdict.ensures.history)
+    refl (sym c.add.ensures.total) refl refl

@@ -21,5 +21,6 @@ returns-clause-full g c = λ past.
 pub returns-clause-ends : goal.returns-clause-ends
 returns-clause-ends g c = λ some.
     let seen = c.shares.view_is in
-    let ends : c.self.inside.ends.total ≡ c.args.shares.ends = sym (c.audit-4.ensures.whole (c.shares.invariant.3 ∙ (ap (λ (a : Amounts). a.parts) seen ∙ c.requires.3))) ∙ ap (λ (a : Amounts). a.ends) seen in
+    let ends : c.self.inside.ends.total ≡ c.args.shares.ends = sym (c.audit-4.ensures.whole (c.shares.invariant.3 ∙ (ap (λ (a : Amounts). a.parts) seen ∙ c.requires.3)))
+    ∙ ap (λ (a : Amounts). a.ends) seen in
     ends_tell c.self.invariant c.history-legal.ensures.legal (omega (arith, some, ends))

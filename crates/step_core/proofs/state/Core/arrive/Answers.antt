@@ -18,7 +18,8 @@ pub enter-requires : goal.enter-requires
 enter-requires g c =
     let entered : c.commit-verdict.result ≢ Full = not_full c.commit-verdict.result (sym c.is_entered.ensures ∙ c.if-is_entered.true) in
     let may =
-    may_arrive _ _ _ _ _ _ _ _ c.self.invariant c.args.self.now c.self.view_is c.args.who c.args.done.now.k c.commit-verdict.result c.requires.who (within_length _ _ _ c.args.done.now.is_answer) c.requires.caller
+    may_arrive _ _ _ _ _ _ _ _ c.self.invariant c.args.self.now c.self.view_is c.args.who c.args.done.now.k c.commit-verdict.result c.requires.who (within_length _ _ _ c.args.done.now.is_answer)
+    c.requires.caller
     (sym (c.commit-verdict.ensures.verdict ∙ verdict_agrees _ _ _ _ _ _ _ _ c.self.invariant c.args.who c.args.done.now.k (within_length _ _ _ c.args.done.now.is_answer)))
     entered
     in
@@ -28,12 +29,14 @@ pub invariant_of-self : goal.invariant_of-self
 invariant_of-self g c =
     let entered : c.commit-verdict.result ≢ Full = not_full c.commit-verdict.result (sym c.is_entered.ensures ∙ c.if-is_entered.true) in
     let may =
-    may_arrive _ _ _ _ _ _ _ _ c.self.invariant c.args.self.now c.self.view_is c.args.who c.args.done.now.k c.commit-verdict.result c.requires.who (within_length _ _ _ c.args.done.now.is_answer) c.requires.caller
+    may_arrive _ _ _ _ _ _ _ _ c.self.invariant c.args.self.now c.self.view_is c.args.who c.args.done.now.k c.commit-verdict.result c.requires.who (within_length _ _ _ c.args.done.now.is_answer)
+    c.requires.caller
     (sym (c.commit-verdict.ensures.verdict ∙ verdict_agrees _ _ _ _ _ _ _ _ c.self.invariant c.args.who c.args.done.now.k (within_length _ _ _ c.args.done.now.is_answer)))
     entered
     in
     rw c.enter.ensures.items
-    (committed_keeps _ _ _ _ _ _ _ _ c.self.invariant c.args.who c.args.done.now.k c.raised-self-inside.result (vec_capacity c.enter.new.history) c.commit-verdict.result _ c.commit-verdict.new.table c.commit-verdict.new.stage may
+    (committed_keeps _ _ _ _ _ _ _ _ c.self.invariant c.args.who c.args.done.now.k c.raised-self-inside.result (vec_capacity c.enter.new.history) c.commit-verdict.result _ c.commit-verdict.new.table
+    c.commit-verdict.new.stage may
     (c.args.done.now.is_answer ∙ ap (λ a. Some a) (sym c.delivery_of-what.ensures))
     c.commit-verdict.ensures.commits c.commit-verdict.ensures.agree c.raised-self-inside.ensures.worker c.raised-self-inside.ensures.caller c.enter.ensures.room)
 

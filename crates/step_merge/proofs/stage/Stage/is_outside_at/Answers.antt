@@ -18,6 +18,7 @@ returns-in-Tally c =
     let fits : fits_word c.word.result ≡ true = fits_back c.word.result read in
     c.is_outside_total.ensures
     ∙ (ap (λ t. c.is_entered.result && not (fits_word t)) (to_z-of_z w128 c.value.result wide)
-    ∙ outside_if c.args.self.now c.args.image.now.memory c.args.a (kind_there c.args.image.now.memory c.args.a Tally c.requires.word c.in-Tally.ensures) c.is_entered.result c.value.result c.is_entered.ensures
+    ∙ outside_if c.args.self.now c.args.image.now.memory c.args.a (kind_there c.args.image.now.memory c.args.a Tally c.requires.word c.in-Tally.ensures) c.is_entered.result c.value.result
+    c.is_entered.ensures
     (ap fits_word (sym c.word.ensures) ∙ fits)
     (c.value.ensures.value ∙ ap (λ x. entered Tally c.args.self.now c.args.a x) (to_z-of_z w64 c.word.result read ∙ c.word.ensures)))

@@ -20,9 +20,11 @@ merge_word-requires-clause-inside c = inside_now c.args.image.now.memory c.loop-
 
 pub loop-a-preserved : goal.loop-a-preserved
 loop-a-preserved c = record {
-  so_far = merged_now c.args.image.now.memory c.loop-a.image.memory (left_by c.args.self.now) c.loop-a.a c.loop-a.invariant.so_far (omega arith) c.merge_word.new.image.memory c.merge_word.ensures.memory;
+  so_far = merged_now c.args.image.now.memory c.loop-a.image.memory (left_by c.args.self.now) c.loop-a.a c.loop-a.invariant.so_far (omega arith) c.merge_word.new.image.memory
+      c.merge_word.ensures.memory;
   later = later_transitive _ _ _ c.loop-a.invariant.later c.merge_word.ensures.later;
-  pages = λ p none. c.merge_word.ensures.pages p (λ e. none c.loop-a.a (omega (arith, ap (λ ks. length ks) c.requires.kinds, length-map c.args.image.now.memory (λ (w : Word). w.kind))) e) ∙ c.loop-a.invariant.pages p none;
+  pages = λ p none. c.merge_word.ensures.pages p (λ e. none c.loop-a.a (omega (arith, ap (λ ks. length ks) c.requires.kinds, length-map c.args.image.now.memory (λ (w : Word). w.kind))) e)
+      ∙ c.loop-a.invariant.pages p none;
 }
 
 pub returns-clause-memory : goal.returns-clause-memory

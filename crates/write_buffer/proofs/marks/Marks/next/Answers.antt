@@ -38,7 +38,8 @@ returns-in-Some-next_set c =
     let read : c.index.result.now ≡ mask_of masks p = c.index.ensures ∙ get_or_default masks p c.index.result.now 0 (omega (arith, c.if-p-len.false, c.len.ensures, i.masks.ok.0)) in
     let bit = subst (λ m. IsNextBit m (c.args.from % 64) None) read c.in-None.ensures in
     let pages = subst (λ (l : List ℕ). IsNextMarked l (p + 1) (Some q)) c.deref.ensures.value c.in-Some-next_set.ensures in
-    let mask : c.index-in-Some-next_set.result.now ≡ mask_of masks q = page_read masks i.pages.items i.touched.items i.touched.cap q c.index-in-Some-next_set.result.now c.self.invariant pages.1 c.index-in-Some-next_set.ensures in
+    let mask : c.index-in-Some-next_set.result.now ≡ mask_of masks q = page_read masks i.pages.items i.touched.items i.touched.cap q c.index-in-Some-next_set.result.now c.self.invariant pages.1
+    c.index-in-Some-next_set.ensures in
     let low = subst (λ m. IsLowest m c.lowest.result) mask c.lowest.ensures in
     subst (λ (l : List ℕ). IsNextMarked l c.args.from (Some (64 * q + c.lowest.result))) c.self.view_is
     (next_page masks i.pages.items i.touched.items i.touched.cap c.args.from (p + 1) q c.lowest.result c.self.invariant (omega arith) (none_in_first masks c.args.from bit) pages low)
