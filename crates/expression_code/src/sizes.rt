@@ -134,6 +134,22 @@ fn add_to_size(scope: &Scope, place: &Place, value: &Expr) -> u32
     }
 }
 
+/// The instructions of a test with its branch, of so many behind it, and of a jump.
+fn tested_size(test: &Expr, inside: u32) -> u32
+    requires { IsSmall (sizes.size_of test.now + 1 + inside + 1) }
+    ensures { result ≡ sizes.size_of test.now + 1 + inside + 1 }
+{
+    value_size(test) + 1 + inside + 1
+}
+
+/// The instructions of a `for`, of which the first statement, the block and the last statement take so many.
+fn for_size(before: u32, test: &Expr, inside: u32, step: u32) -> u32
+    requires { IsSmall (before + sizes.size_of test.now + 1 + inside + step + 1) }
+    ensures { result ≡ before + sizes.size_of test.now + 1 + inside + step + 1 }
+{
+    before + value_size(test) + 1 + inside + step + 1
+}
+
 /// The instructions of a statement. Its locals are declared in the scope.
 #[cycle(form)]
 pub fn form_size(names: &Names, scope: &mut Scope, form: &Form) -> Result<u32, NoMemory>
@@ -159,7 +175,7 @@ pub fn form_size(names: &Names, scope: &mut Scope, form: &Form) -> Result<u32, N
         }
         Form::While { test, body } => {
             let inside = block_size(names, scope, body.as_slice())?;
-            Ok(value_size(test) + 1 + inside + 1)
+            Ok(tested_size(test, inside))
         }
         Form::For {
             first,
@@ -173,7 +189,7 @@ pub fn form_size(names: &Names, scope: &mut Scope, form: &Form) -> Result<u32, N
             let inside = block_size(names, scope, body.as_slice())?;
             let step = size_here(names, scope, &next.get().form)?;
             scope.leave(mark);
-            Ok(before + value_size(test) + 1 + inside + step + 1)
+            Ok(for_size(before, test, inside, step))
         }
         Form::Break | Form::Continue => Ok(1),
         Form::Return(given) => Ok(returned_size(given) + 1),
@@ -225,7 +241,7 @@ fn arm_size(names: &Names, scope: &mut Scope, arm: &Arm) -> Result<u32, NoMemory
     ensures few { OnOk result (scope.new.next ≤ scope.old.next + one_arm_size names.now arm.now scope.old.slots scope.old.next) }
 {
     let inside = block_size(names, scope, arm.body.as_slice())?;
-    Ok(value_size(&arm.test) + 1 + inside + 1)
+    Ok(tested_size(&arm.test, inside))
 }
 
 /// The instructions of the arms of an `if`.

@@ -28,17 +28,11 @@ form_size-block_size-requires-in-While t c =
     let same = ap (λ (b : List Stmt). statements_size c.args.names.now b c.args.scope.now.slots c.args.scope.now.next) c.as_slice-in-While.ensures in
     (search (rules, the_lemmas), omega (arith, c.requires.room, whole, same))
 
-pub form_size-overflow_add-result-in-While-2 : goal.form_size-overflow_add-result-in-While-2
-form_size-overflow_add-result-in-While-2 t c =
+pub form_size-tested_size-requires : goal.form_size-tested_size-requires
+form_size-tested_size-requires t c =
     let whole = size_while c.args.names.now c.args.form.now c.in-While.test c.in-While.body c.args.scope.now.slots c.args.scope.now.next c.in-While.is in
     let same = ap (λ (b : List Stmt). statements_size c.args.names.now b c.args.scope.now.slots c.args.scope.now.next) c.as_slice-in-While.ensures in
-    omega (arith, c.requires.room, whole, same, c.in_ok-inside-in-While.ensures.size, c.value_size-in-While.ensures)
-
-pub form_size-overflow_add-result-in-While-3 : goal.form_size-overflow_add-result-in-While-3
-form_size-overflow_add-result-in-While-3 t c =
-    let whole = size_while c.args.names.now c.args.form.now c.in-While.test c.in-While.body c.args.scope.now.slots c.args.scope.now.next c.in-While.is in
-    let same = ap (λ (b : List Stmt). statements_size c.args.names.now b c.args.scope.now.slots c.args.scope.now.next) c.as_slice-in-While.ensures in
-    omega (arith, c.requires.room, whole, same, c.in_ok-inside-in-While.ensures.size, c.value_size-in-While.ensures)
+    omega (arith, c.requires.room, whole, same, c.in_ok-inside-in-While.ensures.size)
 
 pub form_size-returns-in_ok-inside-in-While-clause-size : goal.form_size-returns-in_ok-inside-in-While-clause-size
 form_size-returns-in_ok-inside-in-While-clause-size t c = rw (size_while _ _ _ _ _ _ c.in-While.is) (search rules)
@@ -115,45 +109,13 @@ form_size-size_here-requires t c =
     c.in_ok-before-in-For.ensures.slots c.in_ok-before-in-For.ensures.next c.in_ok-inside-in-For.ensures.slots c.in_ok-inside-in-For.ensures.next in
     (search (rules, the_lemmas), omega (arith, c.requires.room, whole, c.in_ok-before-in-For.ensures.few, c.in_ok-inside-in-For.ensures.few))
 
-pub form_size-overflow_add-result-in-For : goal.form_size-overflow_add-result-in-For
-form_size-overflow_add-result-in-For t c =
+pub form_size-for_size-requires : goal.form_size-for_size-requires
+form_size-for_size-requires t c =
     let whole =
     for_parts c.args.names.now c.args.form.now c.in-For.first c.get.result.now c.in-For.test c.in-For.next c.get-in-For.result.now c.in-For.body c.as_slice-in-For.result.now
     c.args.scope.now.slots c.args.scope.now.next c.form_size.new.scope c.block_size-in-For.new.scope c.in-For.is c.get.ensures c.get-in-For.ensures c.as_slice-in-For.ensures
     c.in_ok-before-in-For.ensures.slots c.in_ok-before-in-For.ensures.next c.in_ok-inside-in-For.ensures.slots c.in_ok-inside-in-For.ensures.next in
-    omega (arith, c.requires.room, whole, c.in_ok-before-in-For.ensures.size, c.in_ok-inside-in-For.ensures.size, c.in_ok-step-in-For.ensures.size, c.value_size-in-For.ensures)
-
-pub form_size-overflow_add-result-in-For-2 : goal.form_size-overflow_add-result-in-For-2
-form_size-overflow_add-result-in-For-2 t c =
-    let whole =
-    for_parts c.args.names.now c.args.form.now c.in-For.first c.get.result.now c.in-For.test c.in-For.next c.get-in-For.result.now c.in-For.body c.as_slice-in-For.result.now
-    c.args.scope.now.slots c.args.scope.now.next c.form_size.new.scope c.block_size-in-For.new.scope c.in-For.is c.get.ensures c.get-in-For.ensures c.as_slice-in-For.ensures
-    c.in_ok-before-in-For.ensures.slots c.in_ok-before-in-For.ensures.next c.in_ok-inside-in-For.ensures.slots c.in_ok-inside-in-For.ensures.next in
-    omega (arith, c.requires.room, whole, c.in_ok-before-in-For.ensures.size, c.in_ok-inside-in-For.ensures.size, c.in_ok-step-in-For.ensures.size, c.value_size-in-For.ensures)
-
-pub form_size-overflow_add-result-in-For-3 : goal.form_size-overflow_add-result-in-For-3
-form_size-overflow_add-result-in-For-3 t c =
-    let whole =
-    for_parts c.args.names.now c.args.form.now c.in-For.first c.get.result.now c.in-For.test c.in-For.next c.get-in-For.result.now c.in-For.body c.as_slice-in-For.result.now
-    c.args.scope.now.slots c.args.scope.now.next c.form_size.new.scope c.block_size-in-For.new.scope c.in-For.is c.get.ensures c.get-in-For.ensures c.as_slice-in-For.ensures
-    c.in_ok-before-in-For.ensures.slots c.in_ok-before-in-For.ensures.next c.in_ok-inside-in-For.ensures.slots c.in_ok-inside-in-For.ensures.next in
-    omega (arith, c.requires.room, whole, c.in_ok-before-in-For.ensures.size, c.in_ok-inside-in-For.ensures.size, c.in_ok-step-in-For.ensures.size, c.value_size-in-For.ensures)
-
-pub form_size-overflow_add-result-in-For-4 : goal.form_size-overflow_add-result-in-For-4
-form_size-overflow_add-result-in-For-4 t c =
-    let whole =
-    for_parts c.args.names.now c.args.form.now c.in-For.first c.get.result.now c.in-For.test c.in-For.next c.get-in-For.result.now c.in-For.body c.as_slice-in-For.result.now
-    c.args.scope.now.slots c.args.scope.now.next c.form_size.new.scope c.block_size-in-For.new.scope c.in-For.is c.get.ensures c.get-in-For.ensures c.as_slice-in-For.ensures
-    c.in_ok-before-in-For.ensures.slots c.in_ok-before-in-For.ensures.next c.in_ok-inside-in-For.ensures.slots c.in_ok-inside-in-For.ensures.next in
-    omega (arith, c.requires.room, whole, c.in_ok-before-in-For.ensures.size, c.in_ok-inside-in-For.ensures.size, c.in_ok-step-in-For.ensures.size, c.value_size-in-For.ensures)
-
-pub form_size-overflow_add-result-in-For-5 : goal.form_size-overflow_add-result-in-For-5
-form_size-overflow_add-result-in-For-5 t c =
-    let whole =
-    for_parts c.args.names.now c.args.form.now c.in-For.first c.get.result.now c.in-For.test c.in-For.next c.get-in-For.result.now c.in-For.body c.as_slice-in-For.result.now
-    c.args.scope.now.slots c.args.scope.now.next c.form_size.new.scope c.block_size-in-For.new.scope c.in-For.is c.get.ensures c.get-in-For.ensures c.as_slice-in-For.ensures
-    c.in_ok-before-in-For.ensures.slots c.in_ok-before-in-For.ensures.next c.in_ok-inside-in-For.ensures.slots c.in_ok-inside-in-For.ensures.next in
-    omega (arith, c.requires.room, whole, c.in_ok-before-in-For.ensures.size, c.in_ok-inside-in-For.ensures.size, c.in_ok-step-in-For.ensures.size, c.value_size-in-For.ensures)
+    omega (arith, c.requires.room, whole, c.in_ok-before-in-For.ensures.size, c.in_ok-inside-in-For.ensures.size, c.in_ok-step-in-For.ensures.size)
 
 pub form_size-returns-in_ok-step-in-For-clause-size : goal.form_size-returns-in_ok-step-in-For-clause-size
 form_size-returns-in_ok-step-in-For-clause-size t c =
@@ -161,7 +123,7 @@ form_size-returns-in_ok-step-in-For-clause-size t c =
     for_parts c.args.names.now c.args.form.now c.in-For.first c.get.result.now c.in-For.test c.in-For.next c.get-in-For.result.now c.in-For.body c.as_slice-in-For.result.now
     c.args.scope.now.slots c.args.scope.now.next c.form_size.new.scope c.block_size-in-For.new.scope c.in-For.is c.get.ensures c.get-in-For.ensures c.as_slice-in-For.ensures
     c.in_ok-before-in-For.ensures.slots c.in_ok-before-in-For.ensures.next c.in_ok-inside-in-For.ensures.slots c.in_ok-inside-in-For.ensures.next in
-    omega (arith, whole, c.in_ok-before-in-For.ensures.size, c.in_ok-inside-in-For.ensures.size, c.in_ok-step-in-For.ensures.size, c.value_size-in-For.ensures)
+    omega (arith, whole, c.in_ok-before-in-For.ensures.size, c.in_ok-inside-in-For.ensures.size, c.in_ok-step-in-For.ensures.size, c.for_size.ensures)
 
 pub form_size-returns-in_ok-step-in-For-clause-next : goal.form_size-returns-in_ok-step-in-For-clause-next
 form_size-returns-in_ok-step-in-For-clause-next t c =
