@@ -1,5 +1,5 @@
 -- The words of an accepted program fit the memory.
-use Rattle.std.proofs.Common.{◌≡◌, ℕ, ℤ, pos, negsuc, ◌+◌, ◌≤◌, List, [], ◌∷◌, Option, Some, None, map, sum, refl, sym, ap, ◌∙◌, subst}
+use Rattle.std.proofs.Common.{◌≡◌, ℤ, pos, negsuc, ◌+◌, ◌≤◌, List, [], ◌∷◌, Option, Some, None, map, sum, refl, sym, ap, ◌∙◌, subst}
 use Rattle.csl_tree.specs.declared.program.ArraySize.{ArraySize}
 use Rattle.csl_tree.specs.declared.program.Program.{Program}
 use Rattle.csl_tree.specs.declared.program.Shared.{Shared}
@@ -8,8 +8,8 @@ use Rattle.csl_meaning.specs.Layout.{words_in}
 use Rattle.type_check.specs.Faults as faults
 use Rattle.type_check.specs.Words.{words_taken, total_words}
 use Rattle.type_check.proofs.WordLemmas.{accepted-words}
-use Rattle.tree_eval.specs.Fits.{words_of, FitsMemory}
-use Rattle.tree_eval.proofs.Telling.{sum_cons}
+use Rattle.statement_eval.specs.Fits.{words_of, FitsMemory}
+use Rattle.statement_eval.proofs.AreaLemmas.{sum_cons}
 
 same-natural : (n : ℤ) → layout.natural n ≡ faults.natural n
 same-natural (pos n) = refl

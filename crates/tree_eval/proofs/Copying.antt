@@ -1,9 +1,8 @@
 -- Memories, copied word by word.
-use Rattle.std.proofs.Common.{◌≡◌, ℕ, zero, suc, ◌+◌, ◌<◌, List, [], ◌∷◌, ◌++◌, length, take, ℤ, refl, sym, ap, ◌∙◌, arith, ⊎_elim, add-one}
+use Rattle.std.proofs.Common.{◌≡◌, ℕ, zero, suc, ◌+◌, ◌<◌, [], ◌∷◌, ◌++◌, length, take, ℤ, refl, sym, ap, ◌∙◌, arith, ⊎_elim, add-one}
 use Rattle.std.proofs.lemmas.List.{length-map}
 use Rattle.std.proofs.lemmas.Bool.{cases_eq}
 use Rattle.cal_terms.specs.declared.kinds.WordKind.{WordKind}
-use Rattle.cal_base.specs.declared.step.Word.{Word}
 use Rattle.cal_base.specs.Memory.{Memory, kinds_of, kind_at, value_at, with_value}
 use Rattle.cal_base.proofs.Images.{value_at-with_value_other}
 

@@ -1,9 +1,9 @@
 -- The answers that are laid so far.
-use Rattle.std.proofs.Common.{◌≡◌, ℕ, zero, suc, ◌+◌, ◌<◌, List, [], ◌∷◌, length, get_or, set, replicate, Option, None, Some, refl, sym, ap, ◌∙◌, subst, arith, false, add-one}
+use Rattle.std.proofs.Common.{◌≡◌, ℕ, zero, suc, ◌+◌, ◌<◌, [], ◌∷◌, length, get_or, replicate, Option, None, Some, refl, ap, ◌∙◌, subst, arith, add-one}
 use Rattle.std.specs.Prelude.{is_some, slice_set}
 use Rattle.cal_base.specs.declared.answer.Answer.{Answer}
 use Rattle.cal_base.specs.Answers.{Answers, answer_of}
-use Rattle.step_merge.specs.Staged.{Staged, StandsFor, LaysAt, IsFree, size_of, is_laid}
+use Rattle.step_merge.specs.Staged.{Staged, StandsFor, LaysAt, IsFree, size_of}
 use Rattle.tree_eval.specs.Merged.{LaysOne}
 
 -- the answers of the numbers below this one; the others have none yet

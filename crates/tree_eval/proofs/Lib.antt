@@ -1,8 +1,3 @@
-pub mod Equations
-pub mod Sizes
-pub mod Words
-pub mod Calls
-pub mod Loops
 pub mod Routines
 pub mod Tallies
 pub mod Copying
@@ -12,4 +7,3 @@ pub mod Telling
 pub mod Mains
 pub mod Starting
 pub mod Accepted
-pub mod AreaLemmas

@@ -13,9 +13,9 @@ use Rattle.csl_meaning.specs.Runs.{Outcome, Gives, Stops, ShowsLine, OpensStep, 
 use Rattle.csl_meaning.specs.Value.{Calls, value_of}
 use Rattle.cal_base.specs.Printing.{shown}
 use Rattle.csl_meaning.specs.Meaning.{pieces, widths_of}
-use Rattle.tree_eval.specs.declared.halt.Halt.{Halt}
-use Rattle.tree_eval.specs.declared.halt.Halt.TheVariants.{Cause, NoMemory}
-use Rattle.tree_eval.specs.Follows.{Follows, AppendsAll}
+use Rattle.statement_eval.specs.declared.halt.Halt.{Halt}
+use Rattle.statement_eval.specs.declared.halt.Halt.TheVariants.{Cause, NoMemory}
+use Rattle.statement_eval.specs.Follows.{Follows, AppendsAll}
 use Rattle.tree_eval.specs.Pieces.{piece_of}
 
 -- three runs, one after the other

@@ -14,9 +14,9 @@ use Rattle.csl_meaning.specs.Runs.{Outcome, Gives, Run, and_then, ◌>>=◌, pur
 use Rattle.csl_meaning.specs.Value.{Calls, value_of}
 use Rattle.csl_meaning.specs.Effect.{Went, MainOnly, effect, statements, scoped, turns, after_body, go_on, leave, step_of}
 use Rattle.tree_eval.specs.declared.main_halt.MainHalt.{MainHalt}
-use Rattle.tree_eval.specs.Lists.{chosen, last_block}
+use Rattle.statement_eval.specs.Lists.{chosen, last_block}
 use Rattle.tree_eval.specs.Told.{Told, TellsOf, Tells, TellsLocals}
-use Rattle.tree_eval.proofs.Loops.{after_one, one_gave, again, turns_is, tested}
+use Rattle.statement_eval.proofs.Loops.{after_one, one_gave, again, turns_is, tested}
 use Rattle.tree_eval.proofs.Telling.{told_nothing, told_then, told_bind, halts_bind, halts_after, halts_went, went_halts, locals_halts, halts_locals}
 
 -- what was told before, and then what a statement tells

@@ -27,8 +27,8 @@ use Rattle.tree_eval.specs.declared.main_halt.MainHalt.TheVariants as halt
 use Rattle.tree_eval.specs.declared.run.EvalError.TheVariants as error
 use Rattle.tree_eval.specs.Ends.{end_after}
 use Rattle.tree_eval.specs.Initial.{stated_value}
-use Rattle.tree_eval.specs.Fits.{words_of}
-use Rattle.tree_eval.proofs.Telling.{sum_cons}
+use Rattle.statement_eval.specs.Fits.{words_of}
+use Rattle.statement_eval.proofs.AreaLemmas.{sum_cons}
 use Rattle.tree_eval.specs.Told.{continued, text_by, end_by, ToldSome, Tells, OutRose}
 
 -- ---- the words of a declaration

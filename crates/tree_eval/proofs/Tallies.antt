@@ -6,7 +6,7 @@ use Rattle.std.specs.Prelude.{map}
 use Rattle.std.proofs.lemmas.Bool.{cases_eq, ne_eqb}
 use Rattle.std.proofs.lemmas.List.Elements.{All-nil, All-cons}
 use Rattle.std.proofs.lemmas.List.Folds.{list_any_none}
-use Rattle.std.proofs.Common.{Bool, true, false, cond, ◌==◌}
+use Rattle.std.proofs.Common.{cond, ◌==◌}
 use Rattle.cal_terms.specs.declared.kinds.WordKind.{WordKind}
 use Rattle.cal_terms.specs.declared.kinds.WordKind.TheVariants.{Ordinary, Tally}
 use Rattle.cal_base.specs.Memory.{Memory, kinds_of, kind_at}

@@ -1,7 +1,7 @@
 -- What main tells, one part after the other.
 use Rattle.std.proofs.Common.{◌≡◌, ℕ, ℤ, suc, ◌+◌, ◌≤◌, length, take, map, sum, List, [], ◌∷◌, ◌++◌, Option, Some, None, Ok, Err, refl, sym, ap, ◌∙◌, subst, arith, append_assoc, length-append, false}
 use Rattle.std.specs.Io.{StartsWith}
-use Rattle.std.specs.List.{fold, range_with_len}
+use Rattle.std.specs.List.{range_with_len}
 use Rattle.std.specs.Io.KnownBytes.{Appends}
 use Rattle.std.proofs.KnownBytes.{Appends-nil, Appends-trans}
 use Rattle.std.proofs.lemmas.List.FromFn.{length-map-range_with_len}
@@ -29,13 +29,14 @@ use Rattle.csl_meaning.specs.Routines.{answers, answer}
 use Rattle.cal_base.specs.Printing.{line_of}
 use Rattle.cal_base.specs.Widths.{step_widths}
 use Rattle.csl_meaning.specs.Meaning.{open_step, in_main, widths_of, good_widths, pieces, show}
-use Rattle.tree_eval.specs.declared.halt.Halt.{Halt}
-use Rattle.tree_eval.specs.declared.halt.Halt.TheVariants.{Cause, NoMemory}
+use Rattle.statement_eval.specs.declared.halt.Halt.{Halt}
+use Rattle.statement_eval.specs.declared.halt.Halt.TheVariants.{Cause, NoMemory}
 use Rattle.tree_eval.specs.declared.main_halt.MainHalt.{MainHalt}
 use Rattle.tree_eval.specs.declared.main_halt.MainHalt.TheVariants as halt
-use Rattle.tree_eval.specs.Follows.{Follows, Goes, AppendsAll}
+use Rattle.statement_eval.specs.Follows.{Follows, Goes, AppendsAll}
 use Rattle.tree_eval.specs.Ready.{ready_widths}
 use Rattle.tree_eval.specs.Told.{continued, text_by, end_by, Told, Finishes, ToldSome, TellsOf, Tells, TellsLocals, main_halt}
+use Rattle.statement_eval.proofs.AreaLemmas.{sum_cons}
 use Rattle.tree_eval.proofs.Lines.{bind_assoc, appended_whole}
 
 -- ---- how main goes on
@@ -199,13 +200,6 @@ module _ (p : Program) (fuel : ℕ) (blocks : List RoutineBlock) (widths : List 
         same_text = λ next. ap (λ r. text_of false (going_on job r (λ m. meaning_of (next tt (later_world m)))).events) e;
         same_end = λ next. ap (λ r. (going_on job r (λ m. meaning_of (next tt (later_world m)))).ending) e;
       }
-
-fold_from : (a : ℕ) (xs : List ℕ) → fold ◌+◌ a xs ≡ a + fold ◌+◌ 0 xs
-fold_from a [] = omega arith
-fold_from a (x ∷ xs) = omega (arith, fold_from (a + x) xs, fold_from (0 + x) xs)
-
-pub sum_cons : (n : ℕ) (ns : List ℕ) → sum (n ∷ ns) ≡ n + sum ns
-sum_cons n ns = omega (arith, fold_from (0 + n) ns)
 
 pub answers_few : (p : Program) (memory : Memory) (fuel : ℕ) (blocks : List RoutineBlock) (widths : List ℕ) → length (all_of (answers p memory fuel blocks widths)) ≤ sum widths
 answers_few p memory fuel [] widths = omega arith

@@ -7,8 +7,8 @@ use Rattle.cal_base.specs.declared.value.Store.{Store}
 use Rattle.cal_base.specs.Memory.{Memory}
 use Rattle.cal_base.specs.Stores.{memory_in, written_in}
 use Rattle.csl_meaning.specs.declared.state.Ending.{Ending}
-use Rattle.tree_eval.specs.declared.halt.Halt.{Halt}
-use Rattle.tree_eval.specs.declared.halt.Halt.TheVariants.{Cause, NoMemory}
+use Rattle.statement_eval.specs.declared.halt.Halt.{Halt}
+use Rattle.statement_eval.specs.declared.halt.Halt.TheVariants.{Cause, NoMemory}
 
 -- the opening memory and the answer, by how the routine ended and what it wrote
 abbrev pub finished : Result Ending Halt → Store → Result (Memory × Answer) MemoryWanted

@@ -1,9 +1,5 @@
-pub mod Follows
-pub mod Lists
-pub mod Sums
-pub mod Fits
-pub mod Changes
 pub mod Finished
+pub mod Asked
 pub mod Merged
 pub mod Told
 pub mod Worlds
@@ -13,4 +9,3 @@ pub mod Ready
 pub mod Printed
 pub mod Initial
 pub mod Ends
-pub mod Areas

@@ -13,8 +13,8 @@ use Rattle.csl_meaning.specs.declared.state.Ending.{Ending}
 use Rattle.csl_meaning.specs.Locals.{Locals}
 use Rattle.csl_meaning.specs.Runs.{Outcome, Gives, Stops, ShowsLine, OpensStep}
 use Rattle.csl_meaning.specs.Effect.{Went}
-use Rattle.tree_eval.specs.declared.halt.Halt.{Halt}
-use Rattle.tree_eval.specs.declared.halt.Halt.TheVariants.{Cause as Caused, NoMemory as MemoryWanted}
+use Rattle.statement_eval.specs.declared.halt.Halt.{Halt}
+use Rattle.statement_eval.specs.declared.halt.Halt.TheVariants.{Cause as Caused, NoMemory as MemoryWanted}
 use Rattle.tree_eval.specs.declared.main_halt.MainHalt.{MainHalt}
 use Rattle.tree_eval.specs.declared.main_halt.MainHalt.TheVariants.{Ended, NoMemory, OutFailed}
 

@@ -2,14 +2,14 @@
 
 ghost use Rattle.std.specs.Prelude.{◌≡◌, ◌≤◌, ◌++◌, IfOk, OnOk};
 ghost use Rattle.csl_meaning.specs.Layout as layout;
-ghost use Rattle.tree_eval.specs.Fits.{FitsMemory};
+ghost use Rattle.statement_eval.specs.Fits.{FitsMemory};
 ghost use Rattle.tree_eval.specs.Initial.{stated_value};
 
-use crate::names::items_in;
 use cal_base::{NoMemory, Word};
 use cal_terms::limits::MOST_WORDS;
 use csl_tree::program::{Shared, Valued};
 use sqlite_items::Items;
+use statement_eval::names::items_in;
 use std::alloc::Global;
 
 /// The stated value at this place, and else 0.

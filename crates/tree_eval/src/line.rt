@@ -4,19 +4,19 @@ ghost use Rattle.std.specs.Prelude.{◌≡◌, ◌≤◌, ◌++◌, IfOk, OnOk};
 ghost use Rattle.cal_base.specs.Printing as printing;
 ghost use Rattle.csl_meaning.specs.Effect.{calls_to, most_levels};
 ghost use Rattle.csl_meaning.specs.Meaning as meaning;
-ghost use Rattle.tree_eval.specs.Fits.{FitsMemory};
-ghost use Rattle.tree_eval.specs.Follows.{Follows, AppendsAll, stays};
+ghost use Rattle.statement_eval.specs.Fits.{FitsMemory};
+ghost use Rattle.statement_eval.specs.Follows.{Follows, AppendsAll, stays};
 ghost use Rattle.tree_eval.specs.Pieces.{piece_of, spaced};
 
-use crate::halt::Halt;
-use crate::names::Names;
-use crate::stmt::{MOST_LEVELS, value};
 use cal_base::{NoMemory, Val};
 use csl_meaning::{Local, World};
 use csl_tree::name::Text;
 use csl_tree::program::Item;
 use itoa::Buffer;
 use sqlite_items::Items;
+use statement_eval::halt::Halt;
+use statement_eval::names::Names;
+use statement_eval::stmt::{MOST_LEVELS, value};
 use std::alloc::Global;
 
 /// A value as it is printed: a number in decimal, or `true` or `false`.

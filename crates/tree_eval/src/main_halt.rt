@@ -4,8 +4,8 @@ ghost use Rattle.std.specs.Prelude.{◌≡◌};
 ghost use Rattle.tree_eval.specs.Told as told;
 ghost use Rattle.tree_eval.specs.declared.main_halt.MainHalt.TheVariants.{NoMemory as memory_wanted, OutFailed as out_failed};
 
-use crate::halt::Halt;
 use cal_base::{Failed, RunEnd};
+use statement_eval::halt::Halt;
 use std::alloc::{AllocError, AllocFailed};
 
 /// The end of the run, or want of memory or of a working sink.

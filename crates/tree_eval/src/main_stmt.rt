@@ -8,8 +8,8 @@ ghost use Rattle.csl_meaning.specs.Effect.{Printing, calls_to, most_levels};
 ghost use Rattle.csl_meaning.specs.Meaning.{in_main};
 ghost use Rattle.csl_meaning.specs.Runs as runs;
 ghost use Rattle.csl_meaning.specs.Value as spec;
-ghost use Rattle.tree_eval.specs.Fits.{FitsMemory};
-ghost use Rattle.tree_eval.specs.Lists.{chosen, last_block};
+ghost use Rattle.statement_eval.specs.Fits.{FitsMemory};
+ghost use Rattle.statement_eval.specs.Lists.{chosen, last_block};
 ghost use Rattle.tree_eval.specs.Printed.{IsPrinted};
 ghost use Rattle.tree_eval.specs.Told.{Tells, TellsOf, TellsLocals, OutRose};
 ghost use Rattle.tree_eval.specs.Worlds.{IsMain, GoesOn};
@@ -17,15 +17,15 @@ ghost use Rattle.tree_eval.specs.declared.main_halt.MainHalt.TheVariants.{OutFai
 
 use crate::line::{line_of, pieces};
 use crate::main_halt::{MainHalt, main_halt};
-use crate::names::Names;
-use crate::operators::truth_in;
 use crate::step::parbegin;
-use crate::stmt::{MOST_LEVELS, keep, statement, value};
-use crate::store::take_unit;
 use cal_base::{Sink, Val, write_all};
 use csl_meaning::{Ending, Local, World};
 use csl_tree::program::{Arm, Expr, Form, Item, Stmt};
 use sqlite_items::Items;
+use statement_eval::names::Names;
+use statement_eval::operators::truth_in;
+use statement_eval::stmt::{MOST_LEVELS, keep, statement, value};
+use statement_eval::store::take_unit;
 use std::alloc::Global;
 
 /// The value of an expression of main.

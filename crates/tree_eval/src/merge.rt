@@ -6,10 +6,10 @@ ghost use Rattle.cal_base.specs.After.{after};
 ghost use Rattle.step_merge.specs.Staged.{size_of, IsFree, StandsFor};
 ghost use Rattle.tree_eval.specs.Merged.{AreTallies, LaysOne};
 
-use crate::store::{kind_at, value_at};
 use cal_base::{Answer, Image, NoMemory, StepFault, Word, WordKind};
 use cal_terms::limits::{MOST_ROUTINES, MOST_WORDS};
 use sqlite_items::Items;
+use statement_eval::store::{kind_at, value_at};
 use std::alloc::Global;
 use step_merge::Stage;
 

@@ -1,20 +1,21 @@
 //! What the routines of a step answer.
 
-ghost use Rattle.std.specs.Prelude.{◌≡◌, ◌++◌, IfOk, OnOk, map, pos};
+ghost use Rattle.std.specs.Prelude.{◌≡◌, ◌++◌, IfOk, OnOk, Some, false, map, pos};
 ghost use Rattle.std.specs.List.{range_with_len};
-ghost use Rattle.cal_base.specs.Answers.{all_of};
+ghost use Rattle.cal_base.specs.Answers.{is_fault};
 ghost use Rattle.csl_meaning.specs.Routines as routines;
+ghost use Rattle.tree_eval.specs.Asked.{has_failed, until_fault};
 ghost use Rattle.tree_eval.specs.Finished.{finished};
-ghost use Rattle.tree_eval.specs.Fits.{FitsMemory};
+ghost use Rattle.statement_eval.specs.Fits.{FitsMemory};
 
-use crate::halt::Halt;
-use crate::names::Names;
-use crate::stmt::{MOST_LEVELS, statements};
 use cal_base::{Answer, KeptUpdate, NoMemory, Store, Val, Word};
 use csl_meaning::{Ending, Local, World};
 use csl_tree::name::Text;
 use csl_tree::program::RoutineBlock;
 use sqlite_items::Items;
+use statement_eval::halt::Halt;
+use statement_eval::names::Names;
+use statement_eval::stmt::{MOST_LEVELS, statements};
 use std::alloc::Global;
 
 /// The opening memory and the answer, by how the routine ended and what it wrote.
@@ -80,7 +81,18 @@ fn answer(
     finish(alloc, went, world.store)
 }
 
-/// Appends the answers of a block's routines.
+/// Whether a routine failed.
+fn is_failure(answer: &Answer) -> bool
+    ensures { result ≡ is_fault (Some answer.now) }
+{
+    match answer {
+        Answer::Update(_) => false,
+        Answer::Fault(_) => true,
+    }
+}
+
+/// Appends the answers of a block's routines, and tells whether one has failed by now. Behind one that failed none is asked, since it decides how the
+/// step ends.
 fn block_answers(
     alloc: Global,
     p: &Names<'_>,
@@ -88,24 +100,33 @@ fn block_answers(
     fuel: u64,
     block: &RoutineBlock,
     width: u32,
+    failed: bool,
     answers: &mut Items<Option<Answer>>,
-) -> Result<Items<Word>, NoMemory>
+) -> Result<(Items<Word>, bool), NoMemory>
     requires { FitsMemory p.now.shared }
-    ensures memory { IfOk result (λ memory. memory ≡ opening) }
+    ensures memory { IfOk result (λ r. r.0 ≡ opening) }
+    ensures failed { IfOk result (λ r. r.1 ≡ has_failed failed
+        (map (λ id. routines.answer p.now opening fuel block.now width id) (range_with_len 0 width))) }
     ensures answers { OnOk result
-        (answers.new ≡ answers.old ++ all_of
+        (answers.new ≡ answers.old ++ until_fault failed
         (map (λ id. routines.answer p.now opening fuel block.now width id) (range_with_len 0 width))) }
 {
     let mut memory = opening;
+    let mut failed = failed;
     for id in 0..width {
-        let (lent, given) = answer(alloc, p, memory, fuel, block, width, id)?;
-        memory = lent;
-        answers.push(Some(given))?;
+        if failed {
+            answers.push(None)?;
+        } else {
+            let (lent, given) = answer(alloc, p, memory, fuel, block, width, id)?;
+            memory = lent;
+            failed = is_failure(&given);
+            answers.push(Some(given))?;
+        }
     }
-    Ok(memory)
+    Ok((memory, failed))
 }
 
-/// The answers of all routines of a step, in the order of their numbers, and the opening memory that they were lent.
+/// The answers of the routines of a step, in the order of their numbers and up to the first that fails, and the opening memory that they were lent.
 pub fn step_answers(
     alloc: Global,
     p: &Names<'_>,
@@ -116,15 +137,27 @@ pub fn step_answers(
 ) -> Result<(Items<Word>, Items<Option<Answer>>), NoMemory>
     requires { FitsMemory p.now.shared }
     ensures memory { IfOk result (λ r. r.0 ≡ opening) }
-    ensures answers { IfOk result (λ r. r.1 ≡ all_of (routines.answers p.now opening fuel blocks.now widths.now)) }
+    ensures answers { IfOk result (λ r. r.1 ≡ until_fault false (routines.answers p.now opening fuel blocks.now widths.now)) }
 {
     let mut memory = opening;
     let mut answers = Items::new(alloc);
+    let mut failed = false;
     for (i, block) in blocks.iter().enumerate() {
         match widths.get(i) {
             None => return Ok((memory, answers)),
             Some(width) => {
-                memory = block_answers(alloc, p, memory, fuel, block, *width, &mut answers)?;
+                let (lent, by_now) = block_answers(
+                    alloc,
+                    p,
+                    memory,
+                    fuel,
+                    block,
+                    *width,
+                    failed,
+                    &mut answers,
+                )?;
+                memory = lent;
+                failed = by_now;
             }
         }
     }

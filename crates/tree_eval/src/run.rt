@@ -7,16 +7,16 @@ ghost use Rattle.cal_base.specs.Contents.{AppendsPrefix};
 ghost use Rattle.cal_base.specs.Text.{text_of};
 ghost use Rattle.csl_meaning.specs.Meaning as meaning;
 ghost use Rattle.tree_eval.specs.Ends.{end_after};
-ghost use Rattle.tree_eval.specs.Fits.{FitsMemory};
+ghost use Rattle.statement_eval.specs.Fits.{FitsMemory};
 ghost use Rattle.tree_eval.specs.declared.run.EvalError.TheVariants as error;
 
 use crate::first_memory::first_memory;
 use crate::main_halt::MainHalt;
 use crate::main_stmt::main_statements;
-use crate::names::Names;
 use cal_base::{RunEnd, Sink, Store};
 use csl_meaning::{Ending, Local, World};
 use sqlite_items::Items;
+use statement_eval::names::Names;
 use std::alloc::Global;
 use type_check::checked::Checked;
 

@@ -4,19 +4,19 @@ ghost use Rattle.std.specs.Prelude.{◌≡◌, ◌≤◌, IfOk};
 ghost use Rattle.cal_base.specs.Widths.{step_widths};
 ghost use Rattle.csl_meaning.specs.Effect.{calls_to, most_levels};
 ghost use Rattle.csl_meaning.specs.Meaning as meaning;
-ghost use Rattle.tree_eval.specs.Fits.{FitsMemory};
-ghost use Rattle.tree_eval.specs.Follows.{AppendsAll, stays};
+ghost use Rattle.statement_eval.specs.Fits.{FitsMemory};
+ghost use Rattle.statement_eval.specs.Follows.{AppendsAll, stays};
 ghost use Rattle.tree_eval.specs.Widths.{small_number};
 
-use crate::halt::Halt;
-use crate::names::Names;
-use crate::operators::number_in;
-use crate::stmt::{MOST_LEVELS, value};
 use cal_base::NoMemory;
 use cal_terms::limits::MOST_ROUTINES;
 use csl_meaning::{Local, World};
 use csl_tree::program::RoutineBlock;
 use sqlite_items::Items;
+use statement_eval::halt::Halt;
+use statement_eval::names::Names;
+use statement_eval::operators::number_in;
+use statement_eval::stmt::{MOST_LEVELS, value};
 use std::alloc::Global;
 
 /// Appends the widths of the blocks, evaluated from left to right.

@@ -1,6 +1,6 @@
 use Rattle.std.proofs.Common.{◌≡◌, ◌≤◌, ◌++◌, drop}
 use Rattle.csl_meaning.specs.Layout as layout
-use Rattle.tree_eval.specs.Fits.{words_of}
+use Rattle.statement_eval.specs.Fits.{words_of}
 use Rattle.tree_eval.proofs.first_memory.first_memory.Given as goal
 
 -- the words so far, and those of the declarations that are left

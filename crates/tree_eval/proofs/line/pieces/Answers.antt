@@ -2,7 +2,7 @@ use Rattle.std.proofs.Common.{◌∙◌, arith, drop, ◌+◌}
 use Rattle.std.proofs.lemmas.Result.{err_from_is_err_and, IfOk-at_ok}
 use Rattle.csl_meaning.specs.Effect.{calls_to, most_levels}
 use Rattle.csl_meaning.specs.Meaning as meaning
-use Rattle.tree_eval.proofs.Equations.{next_item}
+use Rattle.statement_eval.proofs.Equations.{next_item}
 use Rattle.tree_eval.proofs.Lines.{pieces_more, pieces_stop}
 use Rattle.tree_eval.proofs.line.pieces.Goals as goal
 

@@ -10,11 +10,11 @@ use Rattle.csl_meaning.specs.Value.{value_of}
 use Rattle.csl_meaning.specs.Effect.{calls_to, most_levels, statements, scoped, Went, Stepping, loop, turns, effect, step_of, after_body}
 use Rattle.csl_meaning.specs.Meaning.{in_main}
 use Rattle.csl_meaning.specs.Runs.{Outcome, Gives}
-use Rattle.tree_eval.specs.Lists.{chosen, last_block}
+use Rattle.statement_eval.specs.Lists.{chosen, last_block}
 use Rattle.tree_eval.specs.Told.{Told, Tells, TellsLocals}
-use Rattle.tree_eval.proofs.Equations.{next_item}
-use Rattle.tree_eval.proofs.Loops.{effect_if, effect_while, effect_block, effect_for, effect_par, plain_is, again}
-use Rattle.tree_eval.proofs.Sizes.{one_of, in_if, in_while, in_for, in_first, in_block, one_arm}
+use Rattle.statement_eval.proofs.Equations.{next_item}
+use Rattle.statement_eval.proofs.Loops.{effect_if, effect_while, effect_block, effect_for, effect_par, plain_is, again}
+use Rattle.statement_eval.proofs.Sizes.{one_of, in_if, in_while, in_for, in_first, in_block, one_arm}
 use Rattle.tree_eval.proofs.Telling.{told_nothing, told_then}
 use Rattle.tree_eval.proofs.Mains.{tells_after, block_stops, block_gives, first_stops, first_goes_on, first_ends, arm_stops, arm_true, arm_false, last_some, drop_end, step_told, step_halts}
 use Rattle.tree_eval.proofs.Mains.{for_first_stops, for_loop_stops, for_gives, turn_test_stops, turn_test_false, turn_body_stops, turn_body, turn_to_step, back, back_stops, back_gives, unit_halts}

@@ -4,10 +4,10 @@ use Rattle.csl_meaning.specs.Effect as effects
 use Rattle.csl_meaning.specs.Effect.{calls_to, most_levels}
 use Rattle.csl_meaning.specs.Meaning.{in_main}
 use Rattle.std.specs.Option.{option_copied}
-use Rattle.tree_eval.specs.Lists.{chosen, last_block}
+use Rattle.statement_eval.specs.Lists.{chosen, last_block}
 use Rattle.tree_eval.specs.Told.{Told}
 use Rattle.tree_eval.specs.Worlds.{IsMain}
-use Rattle.tree_eval.proofs.Sizes.{form_weight, body_weight, expr_weight, arms_list_weight, last_body_weight, step_weight}
+use Rattle.statement_eval.proofs.Sizes.{form_weight, body_weight, expr_weight, arms_list_weight, last_body_weight, step_weight}
 use Rattle.tree_eval.proofs.main_stmt.+main.Given as goal
 
 abbrev pub decreases-main_statement : goal.decreases-main_statement

@@ -1,4 +1,4 @@
-use Rattle.std.proofs.Common.{◌+◌, ◌<◌, ℕ, ℤ, SFits, length, sym, ap, subst, ◌∙◌, arith, rules, w64}
+use Rattle.std.proofs.Common.{◌+◌, ◌<◌, ℤ, SFits, length, sym, ap, subst, ◌∙◌, arith, rules, w64}
 use Rattle.std.proofs.lemmas.Int.{to_z-of_z}
 use Rattle.cal_base.specs.Memory.{Memory, kinds_of, with_value}
 use Rattle.cal_base.proofs.Images.{kinds-with_value}

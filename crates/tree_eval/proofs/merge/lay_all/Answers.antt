@@ -1,4 +1,4 @@
-use Rattle.std.proofs.Common.{◌≡◌, ◌∙◌, refl, subst, arith}
+use Rattle.std.proofs.Common.{◌∙◌, refl, subst, arith}
 use Rattle.step_merge.specs.Staged.{StandsFor}
 use Rattle.tree_eval.proofs.Laying.{first_answers, none_laid, all_laid, next_is_free, one_more, has_size, is_free}
 use Rattle.tree_eval.proofs.merge.lay_all.Goals as goal

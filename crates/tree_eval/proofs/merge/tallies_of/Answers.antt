@@ -1,4 +1,4 @@
-use Rattle.std.proofs.Common.{◌≡◌, ◌∙◌, ◌+◌, sym, subst, arith, ℕ, List}
+use Rattle.std.proofs.Common.{◌∙◌, ◌+◌, sym, subst, arith, ℕ, List}
 use Rattle.tree_eval.proofs.Tallies.{AreFirst, first_ordinary, first_tally, all_first}
 use Rattle.tree_eval.proofs.merge.tallies_of.Goals.{in-Ordinary, in-Tally+in_ok-push-in-Tally}
 use Rattle.tree_eval.proofs.merge.tallies_of.Goals as goal

@@ -1,4 +1,4 @@
-use Rattle.std.proofs.Common.{◌≡◌, ◌++◌, ◌∷◌, [], SFits, ap, ◌∙◌, arith, rules, w64}
+use Rattle.std.proofs.Common.{◌++◌, ◌∷◌, [], SFits, ◌∙◌, arith, rules, w64}
 use Rattle.std.proofs.lemmas.Int.{to_z-of_z}
 use Rattle.tree_eval.proofs.Copying.{words_more}
 use Rattle.tree_eval.proofs.merge.words_in.Goals as goal

@@ -4,7 +4,7 @@ use Rattle.cal_base.specs.Contents.{AppendsPrefix}
 use Rattle.cal_base.specs.Text.{text_of}
 use Rattle.csl_tree.specs.declared.program.Program.{Program}
 use Rattle.csl_meaning.specs.Meaning as meaning
-use Rattle.tree_eval.specs.Fits.{FitsMemory}
+use Rattle.statement_eval.specs.Fits.{FitsMemory}
 use Rattle.tree_eval.proofs.Accepted.{accepted-fits}
 use Rattle.tree_eval.proofs.run.eval.Goals as goal
 

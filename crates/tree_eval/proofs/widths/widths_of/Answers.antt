@@ -3,7 +3,7 @@ use Rattle.std.proofs.lemmas.Int.{to_z-of_z}
 use Rattle.std.proofs.lemmas.Result.{err_from_is_err_and, IfOk-at_ok}
 use Rattle.csl_meaning.specs.Effect.{calls_to, most_levels}
 use Rattle.csl_meaning.specs.Meaning as meaning
-use Rattle.tree_eval.proofs.Equations.{next_item}
+use Rattle.statement_eval.proofs.Equations.{next_item}
 use Rattle.tree_eval.proofs.Lines.{widths_more, widths_stop}
 use Rattle.tree_eval.proofs.widths.widths_of.Goals as goal
 

@@ -2,7 +2,7 @@ use Rattle.std.proofs.Common.{◌≡◌, ◌≤◌, ◌++◌, drop}
 use Rattle.csl_meaning.specs.Effect.{calls_to, most_levels}
 use Rattle.csl_meaning.specs.Meaning as meaning
 use Rattle.csl_meaning.specs.Runs.{◌>>=◌, pure}
-use Rattle.tree_eval.specs.Follows.{stays}
+use Rattle.statement_eval.specs.Follows.{stays}
 use Rattle.tree_eval.proofs.widths.widths_of.Given as goal
 
 -- what is appended so far, and the widths of the rest
