@@ -1,5 +1,6 @@
 -- Which program a text spells.
-use Rattle.std.specs.Prelude.{◌≡◌, ◌≤◌, ℕ, List, length}
+use Rattle.std.specs.Prelude.{◌≡◌, ◌≤◌, ◌<◌, ℕ, List, length}
+use Rattle.std.specs.List.{AllByRecursion}
 use Rattle.csl_tree.specs.declared.token.Token.{Token}
 use Rattle.csl_tree.specs.declared.program.Program.{Program}
 use Rattle.csl_lexer.specs.Tokens.{IsTokenList}
@@ -14,13 +15,17 @@ pub record Spells (text : List ℕ) (p : Program) : Type 0 where
   pub flat : IsFlat tokens
   pub spelled : SpellsProgram tokens p
 
--- some text spells the program
+-- the entries of a text are bytes
+abbrev pub AreBytes : List ℕ → Type 0
+AreBytes text = AllByRecursion (λ (b : ℕ). b < 256) text
+
+-- some text of bytes spells the program
 abbrev pub IsSpelled : Program → Type 0
-IsSpelled p = (text : List ℕ) × Spells text p
+IsSpelled p = (text : List ℕ) × AreBytes text × Spells text p
 
 -- some text of at most this many bytes spells the program
 abbrev pub IsSpelledWithin : ℕ → Program → Type 0
-IsSpelledWithin limit p = (text : List ℕ) × (length text ≤ limit) × Spells text p
+IsSpelledWithin limit p = (text : List ℕ) × (length text ≤ limit) × AreBytes text × Spells text p
 
 -- the longest text of a program, in bytes
 abbrev pub text_limit : ℕ

@@ -43,7 +43,7 @@ spells_from text p s =
     }
 
 pub canonical_spells : CanonicalSpells
-canonical_spells p h = spells_from h.0 p h.1
+canonical_spells p h = spells_from h.0 p h.2
 
 -- so does a text that is the canonical one, if there is a text
 pub spelled_result : {X E : Type 0} (bytes : X → List ℕ) (r : Result X E) (p : Program) → IsSpelled p → IfOk r (λ x. bytes x ≡ canonical p) → IfOk r (λ x. SpellsAside (bytes x) p)
