@@ -1,5 +1,5 @@
 -- Refusals of the parts are refusals of the text.
-use Rattle.std.proofs.Common.{◌≡◌, ◌≢◌, ◌≤◌, ℕ, List, length, Result, Ok, Err, IfOk, IfErr, Option, Some, None, refl, sym, ap, ◌∙◌, subst}
+use Rattle.std.proofs.Common.{◌≡◌, ◌≢◌, ◌≤◌, ◌<◌, ℕ, suc, List, [], ◌∷◌, length, get_or, Result, Ok, Err, IfOk, IfErr, Option, Some, None, refl, sym, ap, ◌∙◌, subst}
 use Rattle.csl_tree.specs.declared.token.Token.{Token}
 use Rattle.csl_tree.specs.declared.program.Program.{Program}
 use Rattle.csl_lexer.specs.declared.LexError.{LexError}
@@ -8,7 +8,7 @@ use Rattle.csl_lexer.specs.Tokens.{IsTokenList, IsFirstFault}
 use Rattle.csl_grammar.specs.Levels.{IsFlat, IsTooDeep}
 use Rattle.csl_grammar.specs.Programs.{SpellsProgram}
 use Rattle.csl_grammar.specs.Spelling.{IsUnexpected}
-use Rattle.csl_grammar.specs.Texts.{Spells, IsSpelledWithin, text_limit}
+use Rattle.csl_grammar.specs.Texts.{Spells, AreBytes, IsSpelledWithin, text_limit}
 use Rattle.expression_parser.specs.declared.ParseError.{ParseError}
 use Rattle.expression_parser.specs.declared.ParseError.TheVariants as parser
 use Rattle.type_check.specs.declared.checked.CheckError.{CheckError}
@@ -40,9 +40,15 @@ pub check_refuses : (p : Program) (e : CheckError) → IsRefusal p e → IsFault
 check_refuses p (checker.Refused at kind) h = ap (judged p) h
 check_refuses p checker.NoMemory h = tt
 
--- the program that tokens of a short text spell is spelled by it
-pub spelled_within : (text : List ℕ) (tokens : List Token) (p : Program) → length text ≤ text_limit → IsTokenList text tokens → IsFlat tokens × SpellsProgram tokens p → IsSpelledWithin text_limit p
-spelled_within text tokens p short is h = (text, short, record { tokens = tokens; read = is; flat = h.0; spelled = h.1 })
+-- the entries of a list are bytes if those at each place are
+pub all_bytes : (text : List ℕ) → ((i : ℕ) → get_or text i 0 < 256) → AreBytes text
+all_bytes [] h = tt
+all_bytes (b ∷ text) h = (h 0, all_bytes text (λ i. h (suc i)))
+
+-- the program that tokens of a short text of bytes spell is spelled by it
+pub spelled_within : (text : List ℕ) (tokens : List Token) (p : Program) → length text ≤ text_limit → AreBytes text → IsTokenList text tokens → IsFlat tokens × SpellsProgram tokens p
+    → IsSpelledWithin text_limit p
+spelled_within text tokens p short bytes is h = (text, short, bytes, record { tokens = tokens; read = is; flat = h.0; spelled = h.1 })
 
 pub tokens_refused : (text : List ℕ) (tokens : List Token) (e : ReadError) → IsTokenList text tokens → AreRefused tokens e → IsRefused text e
 tokens_refused text tokens (Refused at why) is h = by_tokens tokens is h
