@@ -133,8 +133,8 @@ program_functions (program w o s c f m b k) = named_heads f
 
 -- so it is in the main of a spelled program
 pub main_heads : (p : Program) → IsSpelledWithin text_limit p → HeadsAre (variant.Block p.main)
-main_heads p h = program_main h.2.spelled
+main_heads p h = program_main h.3.spelled
 
 -- and in its functions
 pub function_heads : (p : Program) → IsSpelledWithin text_limit p → (name : List ℕ) (f : Function) → function_named p.functions name ≡ Some f → HeadsAre (variant.Block f.body)
-function_heads p h = program_functions h.2.spelled
+function_heads p h = program_functions h.3.spelled

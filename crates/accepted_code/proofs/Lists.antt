@@ -8,6 +8,15 @@ pub all_both : {A : Type 0} (P : A → Type 0) (xs ys : List A) → AllByRecursi
 all_both P [] ys h g = g
 all_both P (x ∷ xs) ys h g = (h.0, all_both P xs ys h.1 g)
 
+-- so it holds of each entry of the first, and of the second
+pub all_in_first : {A : Type 0} (P : A → Type 0) (xs ys : List A) → AllByRecursion P (xs ++ ys) → AllByRecursion P xs
+all_in_first P [] ys h = tt
+all_in_first P (x ∷ xs) ys h = (h.0, all_in_first P xs ys h.1)
+
+pub all_in_second : {A : Type 0} (P : A → Type 0) (xs ys : List A) → AllByRecursion P (xs ++ ys) → AllByRecursion P ys
+all_in_second P [] ys h = h
+all_in_second P (x ∷ xs) ys h = all_in_second P xs ys h.1
+
 -- what holds of each holds of the one at an index
 pub all_at : {A : Type 0} (P : A → Type 0) (xs : List A) (k : ℕ) (x : A) → AllByRecursion P xs → slice_get xs k ≡ Some x → P x
 all_at P [] k x all e = absurd cc

@@ -22,11 +22,11 @@ use Rattle.type_check.specs.Faults.{IsAccepted, most_words}
 use Rattle.type_check.specs.Faults as faults
 use Rattle.type_check.specs.Words.{words_taken, total_words}
 use Rattle.type_check.proofs.WordLemmas.{accepted-words}
-use Rattle.bytecode.specs.Spelling.{AreAscendingFrom, AreAscending, Counted, FitsNum, FitsZig, FitsInitial, FitsByte, FitsText}
+use Rattle.bytecode.specs.Spelling.{AreAscendingFrom, AreAscending, Counted, FitsNum, FitsZig, FitsInitial, FitsText}
 use Rattle.code_verify.specs.Rules.{IsWord}
 use Rattle.compiled_code.specs.Sizes.{texts_in}
 use Rattle.compiled_code.specs.Modules.{with_tally, tallies_from, initial_from, module_of}
-use Rattle.accepted_code.specs.Laws.{HasBytes}
+use Rattle.accepted_code.proofs.TokenFacts.{TextFits}
 use Rattle.accepted_code.proofs.Parts.{ValuesFit, SpelledProgram}
 
 -- ---- lists
@@ -148,10 +148,9 @@ initial_few at (word ∷ rest) = by (int_eq word.value (pos 0)) (initial_few (su
 
 -- ---- texts
 
-texts_fit : (texts : List (List ℕ)) → AllByRecursion (λ (text : List ℕ). length text ≤ text_limit) texts → AllByRecursion (λ (text : List ℕ). AllByRecursion FitsByte text) texts
-    → AllByRecursion FitsText texts
-texts_fit [] short bytes = tt
-texts_fit (text ∷ texts) short bytes = ((omega (arith, short.0), bytes.0), texts_fit texts short.1 bytes.1)
+texts_fit : (texts : List (List ℕ)) → AllByRecursion (TextFits text_limit) texts → AllByRecursion FitsText texts
+texts_fit [] fit = tt
+texts_fit (text ∷ texts) fit = ((omega (arith, fit.0.0), fit.0.1), texts_fit texts fit.1)
 
 -- ---- the module
 
@@ -169,8 +168,8 @@ pub record ListsFit (p : Program) : Type 0 where
 pub module_words : (p : Program) → IsAccepted p → (module_of p).words ≤ 262144
 module_words p accepted = omega (arith, memory_length p.shared, accepted-words p accepted)
 
-pub lists_fit : (p : Program) → SpelledProgram p → IsAccepted p → HasBytes p → ListsFit p
-lists_fit p s accepted bytes =
+pub lists_fit : (p : Program) → SpelledProgram p → IsAccepted p → ListsFit p
+lists_fit p s accepted =
     let memory : Memory = first_memory p.shared in
     let count : ℕ = length memory in
     let few : count ≤ 262144 = module_words p accepted in
@@ -184,5 +183,5 @@ lists_fit p s accepted bytes =
       tallies_within = below;
       initial = ((omega (arith, few, initial_few 0 memory), all_weaker (EntryFits count) FitsInitial (λ e h. (small e.0 h.0, h.1, h.2)) (initial_from 0 memory) entries), initial_ascends 0 memory);
       initial_within = all_weaker (EntryFits count) (λ (e : ℕ × ℤ). e.0 < count) (λ e h. h.0) (initial_from 0 memory) entries;
-      texts = (omega (arith, s.few_texts), texts_fit (texts_in (variant.Block p.main)) s.texts bytes);
+      texts = (omega (arith, s.few_texts), texts_fit (texts_in (variant.Block p.main)) s.texts);
     }

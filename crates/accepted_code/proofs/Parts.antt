@@ -18,14 +18,14 @@ use Rattle.csl_tree.specs.declared.program.Form.TheBlock.{hidden-the_row-Stmt-1}
 use Rattle.csl_grammar.specs.Levels.{Stays, outermost}
 use Rattle.csl_grammar.specs.Programs.{Each, stop, again, MoreOf, no_more, more, ListOf, nothing, something, SpellsBlock, SpellsValue, plain, minus, SpellsInitial, unlisted, listed, SpellsShared}
 use Rattle.csl_grammar.specs.Programs.{scalar, array, tally, SpellsParam, param, SpellsFunction, function, SpellsProgram, program}
-use Rattle.csl_grammar.specs.Texts.{IsSpelledWithin, text_limit}
+use Rattle.csl_grammar.specs.Texts.{Spells, IsSpelledWithin, text_limit}
 use Rattle.bytecode.specs.Spelling.{FitsZig}
 use Rattle.compiled_code.specs.Slots.{Slots}
 use Rattle.compiled_code.specs.Sizes.{texts_in, steps_in}
 use Rattle.compiled_code.specs.Places.{form_size}
 use Rattle.accepted_code.proofs.Lists.{all_at}
 use Rattle.accepted_code.proofs.Spelled.{FormSpelled}
-use Rattle.accepted_code.proofs.TokenFacts.{tokens_fit_within, few_tokens}
+use Rattle.accepted_code.proofs.TokenFacts.{TextFits, tokens_fit_within, few_tokens}
 use Rattle.accepted_code.proofs.SpelledValues.{first, zig_fits}
 use Rattle.accepted_code.proofs.SpelledForms.{Onward, onward, RowStands, block_stands}
 use Rattle.accepted_code.proofs.CodeSizes.{row_tokens, block_counted, row_bounded, row_texts_bounded, row_steps_bounded, RoutineFits, row_steps_fit}
@@ -56,7 +56,7 @@ pub record SpelledProgram (p : Program) : Type 0 where
   pub blocks : AllByRecursion (RoutineFits p code_limit) (steps_in (variant.Block p.main))
   pub few_blocks : length (steps_in (variant.Block p.main)) ≤ text_limit + 1
   pub few_texts : length (texts_in (variant.Block p.main)) ≤ text_limit + 1
-  pub texts : AllByRecursion (λ (text : List ℕ). length text ≤ text_limit) (texts_in (variant.Block p.main))
+  pub texts : AllByRecursion (TextFits text_limit) (texts_in (variant.Block p.main))
   pub arrays : ArraysArePlain p.shared
   pub values : AllByRecursion ValuesFit p.shared
 
@@ -213,10 +213,11 @@ program_parts (program {shared = shared} {functions = functions} {body = body} w
 pub spelled_program : (p : Program) → IsSpelledWithin text_limit p → SpelledProgram p
 spelled_program p h =
     let text : List ℕ = h.0 in
-    let tokens : List Token = h.2.tokens in
-    program_parts h.2.spelled
-    (record { from = outermost; good = record { flat = h.2.flat; fit = tokens_fit_within text_limit text tokens h.2.read h.1 } })
-    (omega (arith, h.1, few_tokens text tokens h.2.read))
+    let spells : Spells text p = h.3 in
+    let tokens : List Token = spells.tokens in
+    program_parts spells.spelled
+    (record { from = outermost; good = record { flat = spells.flat; fit = tokens_fit_within text_limit text tokens spells.read (h.1, h.2) } })
+    (omega (arith, h.1, few_tokens text tokens spells.read))
 
 -- ---- single parts
 

@@ -36,7 +36,6 @@ use Rattle.compiled_code.specs.Shape.{HasShape, RoutineIs}
 use Rattle.compiled_code.proofs.Lengths.{form_length, row_length}
 use Rattle.compiled_code.proofs.Meaning.{in_form}
 use Rattle.accepted_code.proofs.Accepted.{accepted_shape}
-use Rattle.accepted_code.specs.Laws.{HasBytes}
 use Rattle.accepted_code.proofs.Lists.{all_at, all_from, made_from}
 use Rattle.accepted_code.proofs.Spelled.{RoutineSpelled}
 use Rattle.accepted_code.proofs.Permits.{IsPlain, Permits}
@@ -175,7 +174,7 @@ code_fits m o c is =
     let few = is.locals in
     record { params = refl; gives = refl; locals = (omega (arith, few), all_kinds c.locals); instrs = (is.instrs, instrs_fit m o c.instrs is.keeps_rules.allowed) }
 
-module _ (p : Program) (spelled : IsSpelledWithin text_limit p) (accepted : IsAccepted p) (bytes : HasBytes p) where
+module _ (p : Program) (spelled : IsSpelledWithin text_limit p) (accepted : IsAccepted p) where
   abbrev m : Module
   m = module_of p
 
@@ -183,7 +182,7 @@ module _ (p : Program) (spelled : IsSpelledWithin text_limit p) (accepted : IsAc
   parts = spelled_program p spelled
 
   lists : ListsFit p
-  lists = lists_fit p parts accepted bytes
+  lists = lists_fit p parts accepted
 
   shape : HasShape p
   shape = accepted_shape p spelled accepted

@@ -8,10 +8,6 @@ use Rattle.code_verify.specs.Rules.{IsVerified}
 use Rattle.machine_meaning.specs.Meaning.{machine_meaning}
 use Rattle.compiled_code.specs.Modules.{module_of}
 use Rattle.compiled_code.specs.Shape.{HasShape}
-use Rattle.std.specs.List.{AllByRecursion}
-use Rattle.csl_tree.specs.declared.program.Form.TheVariants as form
-use Rattle.bytecode.specs.Spelling.{FitsByte}
-use Rattle.compiled_code.specs.Sizes.{texts_in}
 
 -- a program that some text spells and that has no fault has the shape that its code asks for
 abbrev pub AcceptedHasShape : Type 0
@@ -22,15 +18,11 @@ abbrev pub AcceptedKeepsItsMeaning : Type 0
 AcceptedKeepsItsMeaning = (p : Program) → IsSpelledWithin text_limit p → IsAccepted p → IsVerified (module_of p) → (fuel : ℕ)
     → machine_meaning (module_of p) fuel ≡ meaning p fuel
 
--- the texts that a program prints are lists of bytes
-abbrev pub HasBytes : Program → Type 0
-HasBytes p = AllByRecursion (λ text. AllByRecursion FitsByte text) (texts_in (form.Block p.main))
-
 -- a program that some text spells and that has no fault: its module keeps the rules
 abbrev pub AcceptedIsVerified : Type 0
-AcceptedIsVerified = (p : Program) → IsSpelledWithin text_limit p → IsAccepted p → HasBytes p → IsVerified (module_of p)
+AcceptedIsVerified = (p : Program) → IsSpelledWithin text_limit p → IsAccepted p → IsVerified (module_of p)
 
 -- so the module means what the program means, for each amount of fuel
 abbrev pub AcceptedMeansTheSame : Type 0
-AcceptedMeansTheSame = (p : Program) → IsSpelledWithin text_limit p → IsAccepted p → HasBytes p → (fuel : ℕ)
+AcceptedMeansTheSame = (p : Program) → IsSpelledWithin text_limit p → IsAccepted p → (fuel : ℕ)
     → machine_meaning (module_of p) fuel ≡ meaning p fuel

@@ -18,9 +18,9 @@ pub fn accepted_keeps_its_meaning()
     ensures { AcceptedKeepsItsMeaning }
 {}
 
-/// A program that some text of at most 1 MiB spells, that has no fault, and whose texts are bytes:
-/// its module keeps all rules of a verified module. So a compiler that makes this module needs no
-/// answer for a module that is refused.
+/// A program that some text of at most 1 MiB spells and that has no fault: its module keeps all
+/// rules of a verified module. So a compiler that makes this module needs no answer for a module
+/// that is refused.
 pub fn accepted_is_verified()
     ensures { AcceptedIsVerified }
 {}

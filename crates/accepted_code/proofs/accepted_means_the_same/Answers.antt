@@ -4,4 +4,4 @@ use Rattle.accepted_code.proofs.Verified.{is_verified}
 use Rattle.accepted_code.proofs.accepted_means_the_same.Goals as goal
 
 pub returns : goal.returns
-returns c = λ p spelled accepted bytes fuel. means_the_same p (is_verified p spelled accepted bytes) (accepted_shape p spelled accepted) fuel
+returns c = λ p spelled accepted fuel. means_the_same p (is_verified p spelled accepted) (accepted_shape p spelled accepted) fuel
