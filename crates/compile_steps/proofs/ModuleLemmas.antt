@@ -19,7 +19,6 @@ use Rattle.cal_base.specs.Main as opened
 use Rattle.csl_meaning.specs.Meaning as language
 use Rattle.csl_meaning.specs.Meaning.{meaning}
 use Rattle.bytecode.specs.declared.module.Module.{Module}
-use Rattle.bytecode.specs.Spelling.{FitsByte}
 use Rattle.code_verify.specs.Rules.{IsVerified}
 use Rattle.machine_meaning.specs.Meaning.{machine_main, machine_meaning}
 use Rattle.compiled_code.specs.Modules.{with_params, routine_slots, tallies_from, initial_from, function_code, block_code, main_code, module_of}
@@ -29,7 +28,6 @@ use Rattle.type_check.specs.Faults.{IsAccepted}
 use Rattle.type_check.proofs.Facts.{accepted-count}
 use Rattle.accepted_code.proofs.Accepted.{accepted_shape}
 use Rattle.cal_terms.proofs.Lists.{next_item}
-use Rattle.accepted_code.specs.Laws.{HasBytes}
 use Rattle.accepted_code.proofs.Verified.{is_verified}
 use Rattle.accepted_code.proofs.Named.{named_is}
 use Rattle.accepted_code.proofs.Parts.{code_limit, spelled_program, function_spelled, block_spelled}
@@ -159,24 +157,20 @@ module_made p q shared one two fs words t0 tallies i0 initial x0 texts functions
     })
     ∙ sym (module_is p)
 
--- texts of bytes are those of a program
-pub has_bytes : (p : Program) (texts : List Text) → texts ≡ texts_of p.main → AllByRecursion (λ text. AllByRecursion FitsByte text) texts → HasBytes p
-has_bytes p texts e h = subst (λ (l : List Text). AllByRecursion (λ text. AllByRecursion FitsByte text) l) (e ∙ sym (texts_row p.main)) h
-
-module _ (p : Program) (spelled : IsSpelledWithin text_limit p) (accepted : IsAccepted p) (bytes : HasBytes p) (m : Module) (same : m ≡ module_of p) where
+module _ (p : Program) (spelled : IsSpelledWithin text_limit p) (accepted : IsAccepted p) (m : Module) (same : m ≡ module_of p) where
   -- the module keeps the rules, and means what the program means
   pub module_verified : IsVerified m
-  module_verified = subst (λ (n : Module). IsVerified n) (sym same) (is_verified p spelled accepted bytes)
+  module_verified = subst (λ (n : Module). IsVerified n) (sym same) (is_verified p spelled accepted)
 
   pub module_means : (fuel : ℕ) → machine_meaning m fuel ≡ meaning p fuel
-  module_means fuel = ap (λ (n : Module). machine_meaning n fuel) same ∙ means_the_same p (is_verified p spelled accepted bytes) (accepted_shape p spelled accepted) fuel
+  module_means fuel = ap (λ (n : Module). machine_meaning n fuel) same ∙ means_the_same p (is_verified p spelled accepted) (accepted_shape p spelled accepted) fuel
 
   -- it opens the steps that the program opens, and its routines do what the program's do
   pub module_steps : (fuel : ℕ) → opened.steps_of (machine_main m fuel) ≡ opened.steps_of (language.main p fuel)
-  module_steps fuel = ap (λ (n : Module). opened.steps_of (machine_main n fuel)) same ∙ opens_the_same p (is_verified p spelled accepted bytes) (accepted_shape p spelled accepted) fuel
+  module_steps fuel = ap (λ (n : Module). opened.steps_of (machine_main n fuel)) same ∙ opens_the_same p (is_verified p spelled accepted) (accepted_shape p spelled accepted) fuel
 
   pub module_routines : HasRoutines p m
-  module_routines = subst (λ (n : Module). HasRoutines p n) (sym same) (has_routines p (is_verified p spelled accepted bytes) (accepted_shape p spelled accepted))
+  module_routines = subst (λ (n : Module). HasRoutines p n) (sym same) (has_routines p (is_verified p spelled accepted) (accepted_shape p spelled accepted))
 
 -- the code of one more function
 pub next_codes : (p : Program) (codes next all : List Code) (code : Code) (fs : List Function) (k : ℕ) (f : Function) → next ≡ codes ++ code ∷ [] → code ≡ function_code p f → k < length fs

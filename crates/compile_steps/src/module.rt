@@ -8,11 +8,10 @@ ghost use Rattle.csl_meaning.specs.Meaning.{main, meaning};
 ghost use Rattle.machine_meaning.specs.Meaning.{machine_main, machine_meaning};
 ghost use Rattle.compiled_code.specs.Laws.{HasRoutines};
 ghost use Rattle.compiled_code.specs.Modules as modules;
-ghost use Rattle.accepted_code.specs.Laws.{HasBytes};
 
 use crate::blocks::push_blocks;
 use crate::bodies::{function_code, main_code};
-use crate::texts::{hold_bytes, push_texts};
+use crate::texts::push_texts;
 use crate::words::push_words;
 use bytecode::{Code, Module};
 use cal_terms::NoMemory;
@@ -45,8 +44,7 @@ fn function_codes(
 fn module_of(alloc: Global, program: &Program) -> Result<Module, NoMemory>
     requires spelled { IsSpelledWithin text_limit program.now }
     requires accepted { IsAccepted program.now }
-    ensures module { IfOk result (λ m. m ≡ modules.module_of program.now) }
-    ensures bytes { IfOk result (λ m. HasBytes program.now) }
+    ensures { IfOk result (λ m. m ≡ modules.module_of program.now) }
 {
     let names = Names::of(alloc, program)?;
     let mut tallies = Items::new(alloc);
@@ -54,7 +52,6 @@ fn module_of(alloc: Global, program: &Program) -> Result<Module, NoMemory>
     let words = push_words(&mut tallies, &mut initial, program.shared.as_slice())?;
     let mut texts = Items::new(alloc);
     push_texts(alloc, &mut texts, program.main.as_slice())?;
-    hold_bytes(texts.as_slice());
     let functions = function_codes(alloc, &names, program.functions.as_slice())?;
     let mut blocks = Items::new(alloc);
     push_blocks(alloc, &mut blocks, &names, program.main.as_slice())?;

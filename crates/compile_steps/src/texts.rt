@@ -2,8 +2,6 @@
 
 ghost use Rattle.std.specs.Prelude.{◌≡◌, ◌++◌, OnOk};
 ghost use Rattle.compiled_code.specs.Sizes.{texts_in, item_texts};
-ghost use Rattle.std.specs.List.{AllByRecursion};
-ghost use Rattle.bytecode.specs.Spelling.{FitsByte};
 ghost use Rattle.expression_code.specs.Lists.{texts_of, texts_of_arms};
 
 use bytecode::Text;
@@ -75,18 +73,4 @@ fn push_arm_texts(alloc: Global, texts: &mut Items<Text>, arms: &[Arm]) -> Resul
         push_texts(alloc, texts, arm.body.as_slice())?;
     }
     Ok(())
-}
-
-/// The bytes of a text are bytes.
-fn are_bytes(bytes: &[u8])
-    ensures { AllByRecursion FitsByte bytes.now }
-{}
-
-/// The texts of a module are lists of bytes, as its spelling asks. Nothing is done here.
-pub fn hold_bytes(texts: &[Text])
-    ensures { AllByRecursion (λ text. AllByRecursion FitsByte text) texts.now }
-{
-    for text in texts {
-        are_bytes(text.as_slice());
-    }
 }
