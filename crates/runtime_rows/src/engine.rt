@@ -1,18 +1,7 @@
-use crate::alone::run_alone;
-use bytecode::decode;
+use crate::alone::{module_of, run_alone};
 use cal_base::{Cause, MemSink, RunEnd, StepFault};
 use calypso_engine::{RunError, RunReport};
-use code_verify::{Verified, verify};
-use std::alloc::Global;
 use std::test::*;
-
-/// The verified module whose bytes these are, in hexadecimal digits.
-fn module_of(alloc: Global, spelling: &str) -> Result<Verified, Fail> {
-    let bytes = hex::decode(alloc, spelling).ok().ok_or("bytes")?;
-    let m = decode(alloc, bytes.as_slice()).ok().ok_or("a module")?;
-    let code = verify(alloc, m).ok().ok_or("a verified module")?;
-    Ok(code)
-}
 
 /// How many claims the caller made; it executed each.
 fn claims_of(report: &RunReport) -> Result<u64, Fail> {

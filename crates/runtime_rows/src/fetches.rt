@@ -3,7 +3,7 @@
 ghost use Rattle.std.specs.Prelude.{◌≤◌, length};
 ghost use Rattle.event_world.specs.Law.{Each, IsOfWorker};
 
-use crate::worker_pages::module_of;
+use crate::alone::module_of;
 use cal_base::NoMemory;
 use calypso_engine::RunOptions;
 use calypso_engine::team::Team;

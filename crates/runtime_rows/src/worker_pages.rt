@@ -1,10 +1,7 @@
 //! How many pages a worker fetches, over the steps of a run.
 
-use crate::alone::run_alone;
-use bytecode::decode;
+use crate::alone::{module_of, run_alone};
 use cal_base::{MemSink, WorkerTally};
-use code_verify::{Verified, verify};
-use std::alloc::Global;
 use std::test::*;
 
 /// A module, its fuel, how many pages the caller keeps, what the module writes, how often the caller claims, and how many pages it fetches
@@ -51,14 +48,6 @@ const ROWS: &[Row] = &[
     // the same where two are
     (FAR, 6, 2, "3 3\n", 6, 7, 12),
 ];
-
-/// The verified module whose bytes these are, in hexadecimal digits.
-pub fn module_of(alloc: Global, spelling: &str) -> Result<Verified, Fail> {
-    let bytes = hex::decode(alloc, spelling).ok().ok_or("bytes")?;
-    let m = decode(alloc, bytes.as_slice()).ok().ok_or("a module")?;
-    let code = verify(alloc, m).ok().ok_or("a verified module")?;
-    Ok(code)
-}
 
 #[test]
 fn fetches_what_has_changed_alone(rt: HostRuntime) -> Result<(), Fail> {
