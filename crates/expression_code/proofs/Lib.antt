@@ -1,4 +1,5 @@
 pub mod AreaLemmas
+pub mod AskedLemmas
 pub mod Codes
 pub mod ListLemmas
 pub mod RowLemmas

@@ -79,9 +79,8 @@ pub count_for : (f : Form) (first : Stmt) (test : Expr) (next : Stmt) (body : Li
     → length (kinds_in f) ≡ length (kinds_in first.form) + length (kinds_of body)
 count_for f first test next body e = ap length (kinds_for f first test next body e) ∙ length-append (kinds_in first.form) (kinds_of body)
 
-pub count_if_some : (f : Form) (arms : List Arm) (last : Option (List Stmt)) (body : List Stmt) → f ≡ form.If arms last → last ≡ Some body
-    → length (kinds_in f) ≡ length (kinds_of_arms arms) + length (kinds_of body)
-count_if_some f arms last body e some = ap length (kinds_if_some f arms last body e some) ∙ length-append (kinds_of_arms arms) (kinds_of body)
+pub count_if : (f : Form) (arms : List Arm) (last : Option (List Stmt)) → f ≡ form.If arms last → length (kinds_in f) ≡ length (kinds_of_arms arms) + length (kinds_of_last last)
+count_if f arms last e = ap length (kinds_if f arms last e) ∙ length-append (kinds_of_arms arms) (kinds_of_last last)
 
 -- ---- routine blocks
 

@@ -1,5 +1,5 @@
 -- Sizes of statements at the tree's own constructors.
-use Rattle.std.proofs.Common.{◌≡◌, ℕ, ◌+◌, length, List, [], ◌∷◌, Option, Some, None, refl, ap, ◌∙◌, arith}
+use Rattle.std.proofs.Common.{◌≡◌, ℕ, ◌+◌, length, List, [], ◌∷◌, Option, Some, None, refl, sym, ap, ◌∙◌, arith}
 use denote.Hole.Carrier.{hidden}
 use Rattle.csl_tree.specs.declared.program.Program.{Program}
 use Rattle.csl_tree.specs.declared.program.Expr.{Expr}
@@ -37,16 +37,6 @@ module _ (p : Program) where
       ap (λ g. form_size p g slots slot) e
       ∙ (λ i. arms_is arms slots slot i + row_size p (hidden-the_row-Stmt-1 body) slots (slot + length (kinds_arms arms i)))
       ∙ ap (λ n. all_arms_size p arms slots slot + n) (row_is body slots (slot + length (kinds_of_arms arms)))
-
-  pub size_if_none : (f : Form) (arms : List Arm) (last : Option (List Stmt)) (slots : Slots) (slot : ℕ) → f ≡ form.If arms last → last ≡ None
-      → form_size p f slots slot ≡ all_arms_size p arms slots slot
-  size_if_none f arms last slots slot e none =
-      size_if f arms last slots slot e ∙ ap (λ l. all_arms_size p arms slots slot + last_block_size p l slots (slot + length (kinds_of_arms arms))) none ∙ (omega arith)
-
-  pub size_if_some : (f : Form) (arms : List Arm) (last : Option (List Stmt)) (body : List Stmt) (slots : Slots) (slot : ℕ) → f ≡ form.If arms last → last ≡ Some body
-      → form_size p f slots slot ≡ all_arms_size p arms slots slot + statements_size p body slots (slot + length (kinds_of_arms arms))
-  size_if_some f arms last body slots slot e some =
-      size_if f arms last slots slot e ∙ ap (λ l. all_arms_size p arms slots slot + last_block_size p l slots (slot + length (kinds_of_arms arms))) some
 
   pub size_while : (f : Form) (test : Expr) (body : List Stmt) (slots : Slots) (slot : ℕ) → f ≡ form.While test body
       → form_size p f slots slot ≡ size_of test + 1 + statements_size p body slots slot + 1
@@ -87,13 +77,10 @@ module _ (p : Program) where
       let whole = size_for f first test next body slots slot e in
       omega (arith, whole, before, inside, step)
 
-  -- the parts of an `if` with a last block, each in the scope in which it is measured
-  pub if_parts : (f : Form) (arms arms' : List Arm) (last : Option (List Stmt)) (body body' : List Stmt) (slots : Slots) (slot : ℕ) (one : Scoped) → f ≡ form.If arms last → last ≡ Some body
-      → arms' ≡ arms → body' ≡ body → one.slots ≡ slots → one.next ≡ slot + length (kinds_of_arms arms')
-      → form_size p f slots slot ≡ all_arms_size p arms' slots slot + statements_size p body' one.slots one.next
-  if_parts f arms arms' last body body' slots slot one e some arms_is body_is slots_stay next_more =
-      let all = ap (λ (a : List Arm). all_arms_size p a slots slot) arms_is in
+  -- the parts of an `if`, each in the scope in which it is measured
+  pub if_parts : (f : Form) (arms arms' : List Arm) (last : Option (List Stmt)) (slots : Slots) (slot : ℕ) (one : Scoped) → f ≡ form.If arms last
+      → arms' ≡ arms → one.slots ≡ slots → one.next ≡ slot + length (kinds_of_arms arms')
+      → form_size p f slots slot ≡ all_arms_size p arms' slots slot + last_block_size p last one.slots one.next
+  if_parts f arms arms' last slots slot one e arms_is slots_stay next_more =
       let begins : one.next ≡ slot + length (kinds_of_arms arms) = next_more ∙ ap (λ (a : List Arm). slot + length (kinds_of_arms a)) arms_is in
-      let inside : statements_size p body' one.slots one.next ≡ statements_size p body slots (slot + length (kinds_of_arms arms)) = (λ j. statements_size p (body_is j) (slots_stay j) (begins j)) in
-      let whole = size_if_some f arms last body slots slot e some in
-      omega (arith, whole, all, inside)
+      size_if f arms last slots slot e ∙ sym (λ j. all_arms_size p (arms_is j) slots slot + last_block_size p last (slots_stay j) (begins j))

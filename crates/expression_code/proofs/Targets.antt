@@ -12,7 +12,7 @@ use Rattle.compiled_code.proofs.Lengths.{expr_length}
 use Rattle.expression_code.specs.Lists.{right_code}
 
 -- an entry is set
-set_there : {X : Type 0} (xs : List X) (x y : X) (ys : List X) → slice_set (xs ++ x ∷ ys) (length xs) y ≡ xs ++ y ∷ ys
+pub set_there : {X : Type 0} (xs : List X) (x y : X) (ys : List X) → slice_set (xs ++ x ∷ ys) (length xs) y ≡ xs ++ y ∷ ys
 set_there [] x y ys = refl
 set_there (z ∷ xs) x y ys = ap (λ l. z ∷ l) (set_there xs x y ys)
 

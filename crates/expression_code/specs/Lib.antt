@@ -1,4 +1,5 @@
 pub mod Scopes
 pub mod Lists
+pub mod Asked
 pub mod Areas
 pub mod Counts

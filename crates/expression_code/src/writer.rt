@@ -1,6 +1,6 @@
 //! Code as it is written.
 
-ghost use Rattle.std.specs.Prelude.{◌≡◌, ◌+◌, IfOk};
+ghost use Rattle.std.specs.Prelude.{◌≡◌, ◌+◌, ◌<◌, IfOk, get_or, length};
 ghost use Rattle.expression_code.specs.Counts.{IsSmall};
 
 use crate::scope::Scope;
@@ -9,12 +9,26 @@ use cal_terms::NoMemory;
 use sqlite_items::Items;
 
 /// The code of a body so far, its locals, and the numbers of the next text and of the next routine block of main.
+/// Beside them the sizes that were measured for the body, in the order in which they are asked for, and how many were asked for so far.
 #[derive(Drop)]
 pub struct Writer {
     pub instrs: Items<Instr>,
     pub scope: Scope,
     pub text: u32,
     pub block: u32,
+    pub sizes: Items<u32>,
+    pub asked: usize,
+}
+
+/// The next of the measured sizes.
+pub fn next_size(w: &mut Writer) -> u32
+    requires { w.old.asked < length w.old.sizes }
+    ensures size { result ≡ get_or w.old.sizes w.old.asked 0 }
+    ensures others { w.new ≡ record w.old { asked = w.old.asked + 1 } }
+{
+    let size = w.sizes.as_slice()[w.asked];
+    w.asked += 1;
+    size
 }
 
 /// A sum that has 32 bits.
