@@ -6,3 +6,4 @@ pub mod SharedLemmas
 pub mod TextLemmas
 pub mod Written
 pub mod Room
+pub mod MeasuredSizes

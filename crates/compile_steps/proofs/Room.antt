@@ -1,5 +1,5 @@
 -- What is written and what is still to be written have 32 bits.
-use Rattle.std.proofs.Common.{◌≡◌, ℕ, ◌+◌, ◌<◌, ◌≤◌, List, [], ◌∷◌, ◌++◌, length, drop, get_or, Option, Some, None, refl, sym, ap, ◌∙◌, subst, arith, length-append}
+use Rattle.std.proofs.Common.{◌≡◌, ℕ, ◌+◌, List, [], ◌∷◌, ◌++◌, length, Option, Some, None, refl, sym, ap, ◌∙◌, subst, arith, length-append}
 use Rattle.csl_tree.specs.declared.program.Program.{Program}
 use Rattle.csl_tree.specs.declared.program.Expr.{Expr}
 use Rattle.csl_tree.specs.declared.program.Stmt.{Stmt}
@@ -9,7 +9,6 @@ use Rattle.csl_tree.specs.declared.program.Form.{Form}
 use Rattle.csl_tree.specs.declared.program.Form.TheVariants as form
 use Rattle.bytecode.specs.declared.instr.Instr.{Instr}
 use Rattle.bytecode.specs.declared.instr.Instr.TheVariants as i
-use Rattle.compiled_code.specs.Slots.{Slots}
 use Rattle.compiled_code.specs.Sizes.{size_of, kinds_in, texts_in, steps_in, widths_size}
 use Rattle.compiled_code.specs.Places.{slots_after, form_size}
 use Rattle.compiled_code.specs.Shape.{IsChange}
@@ -19,11 +18,11 @@ use Rattle.compiled_code.proofs.Lengths.{form_length}
 use Rattle.expression_code.specs.declared.writer.Writer.{Writer}
 use Rattle.expression_code.specs.Counts.{IsSmall}
 use Rattle.expression_code.specs.Lists.{kinds_of, kinds_of_arms, kinds_of_last, texts_of, texts_of_arms, texts_of_last, steps_of, steps_of_arms, steps_of_last, statements_size, all_arms_size}
-use Rattle.expression_code.specs.Lists.{last_block_size, step_size, beyond_all, beyond_all_arms}
-use Rattle.expression_code.proofs.RowLemmas.{kinds_while, kinds_block, kinds_for, kinds_if, kinds_row, blocks_is}
+use Rattle.expression_code.specs.Lists.{last_block_size, beyond_all, beyond_all_arms}
+use Rattle.expression_code.proofs.RowLemmas.{kinds_while, kinds_block, kinds_for, kinds_if, blocks_is}
 use Rattle.expression_code.proofs.StatementSizes.{size_while, size_block, size_if, size_par, for_parts}
 use Rattle.compile_steps.specs.declared.statements.Around.{Around}
-use Rattle.compile_steps.specs.Writing.{here, Fits, FormFits, AllFit, ArmsFit, LastFits, WhileFits, TestFits, Wrote, WroteCode, WroteTest, WroteForm, WroteBlock, WroteArms}
+use Rattle.compile_steps.specs.Writing.{here, Fits, FormFits, AllFit, ArmsFit, LastFits, WhileFits, TestFits, WroteTest, WroteForm, WroteBlock, WroteArms}
 use Rattle.compile_steps.proofs.Bridges.{texts_row, steps_row, texts_if, steps_if, ForIs}
 use Rattle.compile_steps.proofs.Written.{here_behind, here_past, test_long, statements_length, all_arms_length, change_kinds, change_texts, change_steps, simple_texts, simple_steps}
 
@@ -55,12 +54,17 @@ module _ (p : Program) where
 
   -- ---- a test and its block
 
-  pub test_fits : (test : Expr) (body : List Stmt) (w : Writer) → WhileFits p test body w → TestFits p test body None w
-  test_fits test body w h = let r = h.room in omega (arith, r)
+  -- where the block's size was taken
+  pub test_fits : (test : Expr) (body : List Stmt) (size : ℕ) (w taken : Writer) → taken ≡ record w { asked = w.asked + 1 } → size ≡ statements_size p body w.scope.slots w.scope.next
+      → WhileFits p test body w → TestFits test size 0 taken
+  test_fits test body size w taken e is h =
+      let same = ap (λ (x : Writer). length x.instrs) e in
+      let r = h.room in
+      omega (arith, same, is, r)
 
-  pub inside_fits : (test : Expr) (body : List Stmt) (next : Option Form) (around : Around) (old new : Writer) → WhileFits p test body old → WroteTest p test body next around old new
+  pub inside_fits : (test : Expr) (body : List Stmt) (inside more k : ℕ) (around : Around) (old new : Writer) → WhileFits p test body old → WroteTest p test inside more k around old new
       → AllFit p body new
-  inside_fits test body next around old new h t =
+  inside_fits test body inside more k around old new h t =
       let at = here_past p (size_of test + 1) t.code (test_long p test old.scope.slots (length old.instrs) around.out) in
       let begins : Fits (beyond_all p old.scope.slots (past p (here old) (size_of test + 1)) body) = record {
         room = let r = h.room in omega (arith, r);
@@ -138,10 +142,11 @@ module _ (p : Program) where
         block = let r = whole.block in omega (arith, r);
       })
 
-  pub last_fits : (f : Form) (arms shown : List Arm) (last : Option (List Stmt)) (exits : Exits) (end : ℕ) (old new : Writer) → f ≡ form.If arms last → shown ≡ arms → FormFits p f old
-      → WroteArms p shown exits end old new → LastFits p last new
-  last_fits f arms shown last exits end old new is e h wrote =
-      let one : WroteArms p arms exits end old new = subst (λ (a : List Arm). WroteArms p a exits end old new) e wrote in
+  pub last_fits : (f : Form) (arms shown : List Arm) (last : Option (List Stmt)) (exits : Exits) (end : ℕ) (old taken new : Writer) → f ≡ form.If arms last → shown ≡ arms
+      → taken ≡ record old { asked = old.asked + 1 } → FormFits p f old → WroteArms p shown exits end taken new → LastFits p last new
+  last_fits f arms shown last exits end old taken new is e same h wrote =
+      let one : WroteArms p arms exits end (record old { asked = old.asked + 1 }) new =
+      subst (λ (w : Writer). WroteArms p arms exits end w new) same (subst (λ (a : List Arm). WroteArms p a exits end taken new) e wrote) in
       let at : here new ≡ beyond_all_arms p old.scope.slots (here old) arms = here_behind (all_arms_size p arms old.scope.slots old.scope.next) one
       (all_arms_length p arms old.scope.slots (here old) exits end) in
       by last (if_parts f arms last old is h) one.slots at
@@ -174,10 +179,10 @@ module _ (p : Program) where
   }
 
   -- the arms behind it
-  pub other_arms_fit : (a : Arm) (rest : List Arm) (exits : Exits) (end : ℕ) (around : Around) (old mid after : Writer) (instrs : List Instr) → ArmsFit p (a ∷ rest) old
-      → WroteTest p (out-Arm a).test (out-Arm a).body None around old mid → WroteBlock p (out-Arm a).body exits mid after → instrs ≡ after.instrs ++ i.Jump end ∷ []
+  pub other_arms_fit : (a : Arm) (rest : List Arm) (exits : Exits) (end inside more k : ℕ) (around : Around) (old mid after : Writer) (instrs : List Instr) → ArmsFit p (a ∷ rest) old
+      → WroteTest p (out-Arm a).test inside more k around old mid → WroteBlock p (out-Arm a).body exits mid after → instrs ≡ after.instrs ++ i.Jump end ∷ []
       → ArmsFit p rest (record after { instrs = instrs })
-  other_arms_fit a rest exits end around old mid after instrs h t block e =
+  other_arms_fit a rest exits end inside more k around old mid after instrs h t block e =
       let test = (out-Arm a).test in
       let body = (out-Arm a).body in
       let at_mid : here mid ≡ past p (here old) (size_of test + 1) = here_past p (size_of test + 1) t.code (test_long p test old.scope.slots (length old.instrs) around.out) in
@@ -271,11 +276,15 @@ module _ (p : Program) where
           block = let r = whole.block in omega (arith, blocks, no_steps, same_steps, r);
         }
 
-    -- its test
-    pub for_test_fits : TestFits p test inside (Some next'.form) one
-    for_test_fits = let r = ends.room in omega (arith, r)
+    -- its test, where the two sizes were taken
+    pub for_test_fits : (size step : ℕ) (taken two : Writer) → taken ≡ record one { asked = one.asked + 1 } → two ≡ record taken { asked = taken.asked + 1 }
+        → step ≡ form_size p next'.form one.scope.slots (one.scope.next + length (kinds_of inside)) → size ≡ statements_size p inside one.scope.slots one.scope.next → TestFits test size step two
+    for_test_fits size step taken two e f step_is is =
+        let same : length two.instrs ≡ length one.instrs = ap (λ (x : Writer). length x.instrs) f ∙ ap (λ (x : Writer). length x.instrs) e in
+        let r = ends.room in
+        omega (arith, same, step_is, is, r)
 
-    module _ (around : Around) (after : Writer) (t : WroteTest p test inside (Some next'.form) around one after) where
+    module _ (size more k : ℕ) (around : Around) (after : Writer) (t : WroteTest p test size more k around one after) where
       begins : here after ≡ past p (here one) (size_of test + 1)
       begins = here_past p (size_of test + 1) t.code (test_long p test one.scope.slots (length one.instrs) around.out)
 

@@ -1,5 +1,5 @@
 -- The words of shared declarations: their tally words, and those that do not begin at 0.
-use Rattle.std.proofs.Common.{◌≡◌, ℕ, zero, suc, ℤ, pos, ◌+◌, ◌<◌, ◌≤◌, Bool, true, false, if◌then◌else◌, List, [], ◌∷◌, ◌++◌, length, map, drop, replicate, Option, Some, None, refl, sym, ap, ◌∙◌}
+use Rattle.std.proofs.Common.{◌≡◌, ℕ, zero, suc, ℤ, pos, ◌+◌, ◌<◌, ◌≤◌, Bool, true, false, if◌then◌else◌, List, [], ◌∷◌, ◌++◌, length, map, drop, replicate, Some, refl, sym, ap, ◌∙◌}
 use Rattle.std.proofs.Common.{arith, get_or, length-append}
 use Rattle.std.specs.Prelude.{slice_get}
 use Rattle.std.specs.Ordering.{int_eq}
@@ -12,7 +12,7 @@ use Rattle.csl_tree.specs.declared.program.Shared.{Shared}
 use Rattle.csl_tree.specs.declared.program.Valued.{Valued}
 use Rattle.cal_terms.proofs.Lists.{next_item}
 use Rattle.csl_meaning.specs.Layout.{words_in, first_words, first_memory}
-use Rattle.compiled_code.specs.Modules.{with_tally, tallies_from, initial_from}
+use Rattle.compiled_code.specs.Modules.{tallies_from, initial_from}
 use Rattle.expression_code.specs.Counts.{words_in_all}
 use Rattle.accepted_code.proofs.SharedWords.{length_words, tallies_append, no_tallies}
 

@@ -29,7 +29,9 @@ use Rattle.expression_code.specs.declared.writer.Writer.{Writer}
 use Rattle.compile_steps.specs.declared.statements.Around.{Around}
 use Rattle.expression_code.specs.Scopes.{Scoped}
 use Rattle.expression_code.specs.Lists.{kinds_of, kinds_of_arms, kinds_of_last, texts_of, texts_of_arms, texts_of_last, steps_of, steps_of_arms, steps_of_last, slots_after_all, statements_size}
-use Rattle.expression_code.specs.Lists.{step_size, all_arms_size, beyond_all, beyond_all_arms, statements_code, all_arms_code, last_block_code}
+use Rattle.expression_code.specs.Asked.{asked, asked_by, asked_inside, asked_by_arms, asked_by_last, asked_by_for}
+use Rattle.expression_code.proofs.AskedLemmas.{asked_if, asked_while, asked_block, asked_for}
+use Rattle.expression_code.specs.Lists.{all_arms_size, last_block_size, beyond_all, beyond_all_arms, statements_code, all_arms_code, last_block_code}
 use Rattle.compile_steps.specs.Writing.{here, Wrote, WroteCode, WroteTest, WroteStep, WroteForm, WroteAll, WroteBlock, WroteArms, WroteLast, WroteWhile}
 use Rattle.expression_code.proofs.RowLemmas.{slots_grow, block_ends, kinds_row, kinds_if, kinds_for, blocks_is}
 use Rattle.compile_steps.proofs.Bridges.{texts_row, steps_row, texts_if, steps_if, row_code_is, if_code_is, while_code_is, for_code, for_code_is, ForIs, is_for}
@@ -70,48 +72,54 @@ next_of xs n x lt is = at_drop_more (λ ys. ys) xs n x lt ∙ ap (λ y. y ∷ dr
 -- ---- one behind the other
 
 -- code behind code
-pub wrote_then : {a b : List Instr} {first next : Slots} {k k' t t' s s' : ℕ} {old mid new : Writer} → Wrote a first k t s old mid → Wrote b next k' t' s' mid new
-    → Wrote (a ++ b) next (k + k') (t + t') (s + s') old new
-wrote_then {a} {b} {first} {next} {k} {k'} {t} {t'} {s} {s'} {old} {mid} {new} one two = record {
+pub wrote_then : {a b : List Instr} {first next : Slots} {k k' t t' s s' q q' : ℕ} {old mid new : Writer} → Wrote a first k t s q old mid → Wrote b next k' t' s' q' mid new
+    → Wrote (a ++ b) next (k + k') (t + t') (s + s') (q + q') old new
+wrote_then {a} {b} {first} {next} {k} {k'} {t} {t'} {s} {s'} {q} {q'} {old} {mid} {new} one two = record {
   instrs = two.instrs ∙ ap (λ c. c ++ b) one.instrs ∙ append_assoc old.instrs a b;
   slots = two.slots;
   locals = let e = one.locals in let f = two.locals in omega (arith, e, f);
   texts = let e = one.texts in let f = two.texts in omega (arith, e, f);
   blocks = let e = one.blocks in let f = two.blocks in omega (arith, e, f);
+  sizes = two.sizes ∙ one.sizes;
+  asked = let e = one.asked in let f = two.asked in omega (arith, e, f);
 }
 
 -- the same under other names
-pub wrote_as : {a b : List Instr} {first next : Slots} {k k' t t' s s' : ℕ} {old new : Writer} → Wrote a first k t s old new → b ≡ a → first ≡ next → k ≡ k' → t ≡ t' → s ≡ s'
-    → Wrote b next k' t' s' old new
-wrote_as {a} {b} {first} {next} {k} {k'} {t} {t'} {s} {s'} {old} {new} w code visible locals texts steps = record {
+pub wrote_as : {a b : List Instr} {first next : Slots} {k k' t t' s s' q q' : ℕ} {old new : Writer} → Wrote a first k t s q old new → b ≡ a → first ≡ next → k ≡ k' → t ≡ t' → s ≡ s' → q ≡ q'
+    → Wrote b next k' t' s' q' old new
+wrote_as {a} {b} {first} {next} {k} {k'} {t} {t'} {s} {s'} {q} {q'} {old} {new} w code visible locals texts steps asked = record {
   instrs = w.instrs ∙ ap (λ c. old.instrs ++ c) (sym code);
   slots = w.slots ∙ visible;
   locals = w.locals ∙ ap (λ n. old.scope.next + n) locals;
   texts = w.texts ∙ ap (λ n. old.text + n) texts;
   blocks = w.blocks ∙ ap (λ n. old.block + n) steps;
+  sizes = w.sizes;
+  asked = w.asked ∙ ap (λ n. old.asked + n) asked;
 }
 
 -- one more instruction
-pub pushed : {a : List Instr} {visible : Slots} {k t s : ℕ} {old mid : Writer} (x : Instr) (instrs : List Instr) → Wrote a visible k t s old mid → instrs ≡ mid.instrs ++ x ∷ []
-    → Wrote (a ++ x ∷ []) visible k t s old (record mid { instrs = instrs })
-pushed {a} {visible} {k} {t} {s} {old} {mid} x instrs w e = record {
+pub pushed : {a : List Instr} {visible : Slots} {k t s q : ℕ} {old mid : Writer} (x : Instr) (instrs : List Instr) → Wrote a visible k t s q old mid → instrs ≡ mid.instrs ++ x ∷ []
+    → Wrote (a ++ x ∷ []) visible k t s q old (record mid { instrs = instrs })
+pushed {a} {visible} {k} {t} {s} {q} {old} {mid} x instrs w e = record {
   instrs = e ∙ ap (λ c. c ++ x ∷ []) w.instrs ∙ append_assoc old.instrs a (x ∷ []);
   slots = w.slots;
   locals = w.locals;
   texts = w.texts;
   blocks = w.blocks;
+  sizes = w.sizes;
+  asked = w.asked;
 }
 
 -- where code goes on
-pub here_behind : {a : List Instr} {visible : Slots} {k t s : ℕ} {old new : Writer} (n : ℕ) → Wrote a visible k t s old new → length a ≡ n
+pub here_behind : {a : List Instr} {visible : Slots} {k t s q : ℕ} {old new : Writer} (n : ℕ) → Wrote a visible k t s q old new → length a ≡ n
     → here new ≡ record { place = (here old).place + n; slot = (here old).slot + k; text = (here old).text + t; block = (here old).block + s }
-here_behind {a} {visible} {k} {t} {s} {old} {new} n w long =
+here_behind {a} {visible} {k} {t} {s} {q} {old} {new} n w long =
     let place : length new.instrs ≡ length old.instrs + n = ap length w.instrs ∙ length_both old.instrs a (length old.instrs) n refl long in
     λ j. record { place = place j; slot = w.locals j; text = w.texts j; block = w.blocks j }
 
 -- behind code without locals, texts and blocks
-pub here_past : {a : List Instr} {old new : Writer} (p : Program) (n : ℕ) → WroteCode a old new → length a ≡ n → here new ≡ past p (here old) n
-here_past {a} {old} {new} p n w long =
+pub here_past : {a : List Instr} {q : ℕ} {old new : Writer} (p : Program) (n : ℕ) → Wrote a old.scope.slots 0 0 0 q old new → length a ≡ n → here new ≡ past p (here old) n
+here_past {a} {q} {old} {new} p n w long =
     let place : length new.instrs ≡ length old.instrs + n = ap length w.instrs ∙ length_both old.instrs a (length old.instrs) n refl long in
     let slot : new.scope.next ≡ old.scope.next = let e = w.locals in omega (arith, e) in
     let text : new.text ≡ old.text = let e = w.texts in omega (arith, e) in
@@ -166,43 +174,77 @@ slots_if arms (Some body) slots slot = refl
 
 -- no code at all
 pub wrote_nothing : (w : Writer) → WroteCode [] w w
-wrote_nothing w = record { instrs = sym (append-nil w.instrs); slots = refl; locals = omega arith; texts = omega arith; blocks = omega arith }
+wrote_nothing w = record { instrs = sym (append-nil w.instrs); slots = refl; locals = omega arith; texts = omega arith; blocks = omega arith; sizes = refl; asked = omega arith }
+
+-- a size is taken, and then code is written
+size_taken : {a : List Instr} {visible : Slots} {k t s q : ℕ} (old new : Writer) → Wrote a visible k t s q (record old { asked = old.asked + 1 }) new → Wrote a visible k t s (q + 1) old new
+size_taken {a} {visible} {k} {t} {s} {q} old new w = record {
+  instrs = w.instrs;
+  slots = w.slots;
+  locals = w.locals;
+  texts = w.texts;
+  blocks = w.blocks;
+  sizes = w.sizes;
+  asked = let e = w.asked in omega (arith, e);
+}
 
 -- the same, where other locals are left visible
-pub left : {a : List Instr} {visible : Slots} {k t s : ℕ} {old mid : Writer} (ss : Slots) (scope : Scoped) → Wrote a visible k t s old mid → scope ≡ record { slots = ss; next = mid.scope.next }
-    → Wrote a ss k t s old (record mid { scope = scope })
-left {a} {visible} {k} {t} {s} {old} {mid} ss scope w e = record {
+pub left : {a : List Instr} {visible : Slots} {k t s q : ℕ} {old mid : Writer} (ss : Slots) (scope : Scoped) → Wrote a visible k t s q old mid
+    → scope ≡ record { slots = ss; next = mid.scope.next } → Wrote a ss k t s q old (record mid { scope = scope })
+left {a} {visible} {k} {t} {s} {q} {old} {mid} ss scope w e = record {
   instrs = w.instrs;
   slots = ap (λ (x : Scoped). x.slots) e;
   locals = ap (λ (x : Scoped). x.next) e ∙ w.locals;
   texts = w.texts;
   blocks = w.blocks;
+  sizes = w.sizes;
+  asked = w.asked;
 }
 
 module _ (p : Program) where
-  -- a test, where the scope is as it was
-  pub test_wrote : (test : Expr) (body : List Stmt) (next : Option Form) (test_at inside more behind out : ℕ) (old : Writer) (scope : Scoped) (one two : List Instr)
+  -- a test
+  pub test_wrote : (test : Expr) (inside more test_at behind out : ℕ) (old : Writer) (one two : List Instr)
       → test_at ≡ length old.instrs → one ≡ old.instrs ++ code_of p old.scope.slots test (length old.instrs)
-      → inside ≡ statements_size p body old.scope.slots old.scope.next → more ≡ step_size p next old.scope.slots (old.scope.next + length (kinds_of body)) → scope ≡ old.scope
       → behind ≡ length one + 1 + inside → out ≡ behind + more + 1 → two ≡ one ++ i.Branch out ∷ []
-      → WroteTest p test body next (record { test = test_at; behind = behind; out = out }) old (record old { instrs = two; scope = scope })
-  test_wrote test body next test_at inside more behind out old scope one two begins wrote inside_is more_is same behind_is out_is branch =
+      → WroteTest p test inside more 0 (record { test = test_at; behind = behind; out = out }) old (record old { instrs = two })
+  test_wrote test inside more test_at behind out old one two begins wrote behind_is out_is branch =
       let code = code_of p old.scope.slots test (length old.instrs) in
       let long : length one ≡ length old.instrs + size_of test = ap length wrote ∙ length_both old.instrs code (length old.instrs) (size_of test) refl
       (expr_length p old.scope.slots test (length old.instrs)) in
-      let next_same : scope.next ≡ old.scope.next = ap (λ (x : Scoped). x.next) same in
       record {
         code = record {
           instrs = branch ∙ ap (λ c. c ++ i.Branch out ∷ []) wrote ∙ append_assoc old.instrs code (i.Branch out ∷ []);
-          slots = ap (λ (x : Scoped). x.slots) same;
-          locals = omega (arith, next_same);
+          slots = refl;
+          locals = omega arith;
           texts = omega arith;
           blocks = omega arith;
+          sizes = refl;
+          asked = omega arith;
         };
         begins = begins;
-        behind = omega (arith, long, behind_is, inside_is);
-        out = out_is ∙ ap (λ n. behind + n + 1) more_is;
+        behind = omega (arith, long, behind_is);
+        out = out_is;
       }
+
+  -- the same, where a size is taken before it
+  taken_before : (test : Expr) (inside more k : ℕ) (around : Around) (old new : Writer) → WroteTest p test inside more k around (record old { asked = old.asked + 1 }) new
+      → WroteTest p test inside more (k + 1) around old new
+  taken_before test inside more k around old new t = record { code = size_taken old new t.code; begins = t.begins; behind = t.behind; out = t.out }
+
+  -- its block is as long as the size that is taken
+  pub test_taken : (test : Expr) (inside size more : ℕ) (around : Around) (old taken new : Writer) → taken ≡ record old { asked = old.asked + 1 } → size ≡ inside
+      → WroteTest p test size more 0 around taken new → WroteTest p test inside more 1 around old new
+  test_taken test inside size more around old taken new e is t =
+      taken_before test inside more 0 around old new (subst (λ (n : ℕ). WroteTest p test n more 0 around (record old { asked = old.asked + 1 }) new) is
+      (subst (λ (w : Writer). WroteTest p test size more 0 around w new) e t))
+
+  -- the block and what stands behind it are as long as the two sizes that are taken
+  pub test_taken_twice : (test : Expr) (inside size more step : ℕ) (around : Around) (old one two new : Writer) → one ≡ record old { asked = old.asked + 1 } → two ≡ record one { asked = one.asked + 1 }
+      → step ≡ more → size ≡ inside → WroteTest p test size step 0 around two new → WroteTest p test inside more 2 around old new
+  test_taken_twice test inside size more step around old one two new e f step_is is t =
+      let first : WroteTest p test inside step 1 around one new = test_taken test inside size step around one two new f is t in
+      taken_before test inside more 1 around old new (subst (λ (n : ℕ). WroteTest p test inside n 1 around (record old { asked = old.asked + 1 }) new) step_is
+      (subst (λ (w : Writer). WroteTest p test inside step 1 around w new) e first))
 
   -- the code of a test and of its branch is as long as this
   pub test_long : (test : Expr) (slots : Slots) (at out : ℕ) → length (code_of p slots test at ++ i.Branch out ∷ []) ≡ size_of test + 1
@@ -215,6 +257,8 @@ module _ (p : Program) where
       wrote_as (wrote_then one others) (λ j. form_code p s.form old.scope.slots (here old) exits ++ statements_code p rest (sym one.slots j) (sym at j) exits)
       (λ j. slots_after_all (one.slots j) (one.locals j) rest)
       (sym (length-append (kinds_in s.form) (kinds_of rest))) (sym (length-append (texts_in s.form) (texts_of rest))) (sym (length-append (steps_in s.form) (steps_of rest)))
+      ((λ j. length (asked p s.form old.scope.slots old.scope.next) + length (asked_by p rest (one.slots j) (one.locals j)))
+      ∙ sym (length-append (asked p s.form old.scope.slots old.scope.next) (asked_by p rest (slots_after old.scope.slots old.scope.next s.form) (old.scope.next + length (kinds_in s.form)))))
 
   -- the statements of a block
   pub block_wrote : (body : List Stmt) (exits : Exits) (mark : ℕ) (old mid : Writer) (scope : Scoped) → WroteAll p body exits old mid → mark ≡ length old.scope.slots
@@ -225,7 +269,7 @@ module _ (p : Program) where
       ∙ block_ends old.scope.slots (slots_after_all old.scope.slots old.scope.next body) old.scope.next body refl))
 
   -- a `while`
-  pub while_wrote : (test : Expr) (body : List Stmt) (around : Around) (old mid after : Writer) (instrs : List Instr) → WroteTest p test body None around old mid
+  pub while_wrote : (test : Expr) (body : List Stmt) (around : Around) (old mid after : Writer) (instrs : List Instr) → WroteTest p test (statements_size p body old.scope.slots old.scope.next) 0 1 around old mid
       → WroteBlock p body (record { on_break = around.out; on_continue = around.behind }) mid after → instrs ≡ after.instrs ++ i.Loop around.test ∷ []
       → WroteWhile p test body old (record after { instrs = instrs })
   while_wrote test body around old mid after instrs t block e =
@@ -239,10 +283,12 @@ module _ (p : Program) where
       ((λ j. code ++ i.Branch (out_is j) ∷ statements_code p body (sym t.code.slots j) (sym at j) (record { on_break = out_is j; on_continue = behind_is j }) ++ i.Loop (sym t.begins j) ∷ [])
       ∙ ap (λ c. c ++ i.Loop around.test ∷ []) (sym (append_assoc code (i.Branch around.out ∷ []) inside)))
       t.code.slots (omega arith) (omega arith) (omega arith)
+      (let same : length (asked_by p body mid.scope.slots mid.scope.next) ≡ length (asked_by p body old.scope.slots old.scope.next) = (λ j. length (asked_by p body (t.code.slots j) (at j).slot)) in
+      omega (arith, same))
 
   -- an arm more
   arm_wrote : (a : Arm) (rest : List Arm) (exits : Exits) (end : ℕ) (around : Around) (old mid after new : Writer) (instrs : List Instr)
-      → WroteTest p (out-Arm a).test (out-Arm a).body None around old mid
+      → WroteTest p (out-Arm a).test (statements_size p (out-Arm a).body old.scope.slots old.scope.next) 0 1 around old mid
       → WroteBlock p (out-Arm a).body exits mid after → instrs ≡ after.instrs ++ i.Jump end ∷ [] → WroteArms p rest exits end (record after { instrs = instrs }) new
       → WroteArms p (a ∷ rest) exits end old new
   arm_wrote a rest exits end around old mid after new instrs t block e others =
@@ -269,27 +315,35 @@ module _ (p : Program) where
       slots_rest
       (let l = length-append (kinds_of body) (kinds_of_arms rest) in omega (arith, l)) (let l = length-append (texts_of body) (texts_of_arms rest) in omega (arith, l))
       (let l = length-append (steps_of body) (steps_of_arms rest) in omega (arith, l))
+      (let first : length (asked_by p body mid.scope.slots mid.scope.next) ≡ length (asked_by p body old.scope.slots old.scope.next) = (λ j. length (asked_by p body (t.code.slots j) (at_mid j).slot)) in
+      let next : length (asked_by_arms p rest after.scope.slots after.scope.next) ≡ length (asked_by_arms p rest old.scope.slots (old.scope.next + length (kinds_of body))) =
+      (λ j. length (asked_by_arms p rest (slots_rest j) (at_after j).slot)) in
+      let l = length-append (asked_inside p body old.scope.slots old.scope.next) (asked_by_arms p rest old.scope.slots (old.scope.next + length (kinds_of body))) in
+      omega (arith, first, next, l))
 
-  pub arms_wrote : (a : Arm) (rest : List Arm) (body body' : List Stmt) (exits : Exits) (end : ℕ) (around : Around) (old mid after new : Writer) (instrs : List Instr) → body ≡ (out-Arm a).body
-      → body' ≡ (out-Arm a).body
-      → WroteTest p (out-Arm a).test body None around old mid → WroteBlock p body' exits mid after → instrs ≡ after.instrs ++ i.Jump end ∷ []
+  pub arms_wrote : (a : Arm) (rest : List Arm) (body : List Stmt) (exits : Exits) (end : ℕ) (around : Around) (old mid after new : Writer) (instrs : List Instr) → body ≡ (out-Arm a).body
+      → WroteTest p (out-Arm a).test (statements_size p (out-Arm a).body old.scope.slots old.scope.next) 0 1 around old mid → WroteBlock p body exits mid after → instrs ≡ after.instrs ++ i.Jump end ∷ []
       → WroteArms p rest exits end (record after { instrs = instrs }) new
       → WroteArms p (a ∷ rest) exits end old new
-  arms_wrote a rest body body' exits end around old mid after new instrs same same' t block e others =
-      arm_wrote a rest exits end around old mid after new instrs (subst (λ (b : List Stmt). WroteTest p (out-Arm a).test b None around old mid) same t)
-      (subst (λ (b : List Stmt). WroteBlock p b exits mid after) same' block) e others
+  arms_wrote a rest body exits end around old mid after new instrs same t block e others =
+      arm_wrote a rest exits end around old mid after new instrs t (subst (λ (b : List Stmt). WroteBlock p b exits mid after) same block) e others
 
   -- an `if` that ends at this place
-  pub if_wrote : (f : Form) (arms shown : List Arm) (last : Option (List Stmt)) (exits : Exits) (end : ℕ) (old mid new : Writer) (scope : Scoped) → f ≡ form.If arms last → shown ≡ arms
-      → scope ≡ old.scope
-      → end ≡ length old.instrs + form_size p f old.scope.slots old.scope.next → WroteArms p shown exits end (record old { scope = scope }) mid → WroteLast p last exits mid new
+  pub if_wrote : (f : Form) (arms shown : List Arm) (last : Option (List Stmt)) (exits : Exits) (end : ℕ) (old taken mid new : Writer) → f ≡ form.If arms last → shown ≡ arms
+      → taken ≡ record old { asked = old.asked + 1 }
+      → end ≡ length old.instrs + form_size p f old.scope.slots old.scope.next → WroteArms p shown exits end taken mid → WroteLast p last exits mid new
       → WroteForm p f exits old new
-  if_wrote f arms shown last exits end old mid new scope is e same ends arms_part last_part =
-      let one : WroteArms p arms exits end old mid =
-      subst (λ (a : List Arm). WroteArms p a exits end old mid) e (subst (λ (x : Scoped). WroteArms p shown exits end (record old { scope = x }) mid) same arms_part) in
+  if_wrote f arms shown last exits end old taken mid new is e same ends arms_part last_part =
+      let one = size_taken old mid
+      (subst (λ (a : List Arm). WroteArms p a exits end (record old { asked = old.asked + 1 }) mid) e (subst (λ (w : Writer). WroteArms p shown exits end w mid) same arms_part)) in
       let at : here mid ≡ beyond_all_arms p old.scope.slots (here old) arms =
       here_behind (all_arms_size p arms old.scope.slots old.scope.next) one (all_arms_length p arms old.scope.slots (here old) exits end) in
       let end_is : end ≡ length old.instrs + form_size p (form.If arms last) old.scope.slots old.scope.next = ends ∙ ap (λ g. length old.instrs + form_size p g old.scope.slots old.scope.next) is in
+      let behind = old.scope.next + length (kinds_of_arms arms) in
+      let whole = ap length (asked_if p (form.If arms last) arms last old.scope.slots old.scope.next refl) in
+      let parts = length-append ((all_arms_size p arms old.scope.slots old.scope.next + last_block_size p last old.scope.slots behind) ∷ asked_by_arms p arms old.scope.slots old.scope.next)
+      (asked_by_last p last old.scope.slots behind) in
+      let others : length (asked_by_last p last mid.scope.slots mid.scope.next) ≡ length (asked_by_last p last old.scope.slots behind) = (λ j. length (asked_by_last p last (one.slots j) (at j).slot)) in
       subst (λ (g : Form). WroteForm p g exits old new) (sym is)
       (wrote_as (wrote_then one last_part)
       (if_code_is p arms last old.scope.slots (here old) exits
@@ -297,7 +351,8 @@ module _ (p : Program) where
       (one.slots ∙ sym (slots_if arms last old.scope.slots old.scope.next))
       (sym (ap length (kinds_if (form.If arms last) arms last refl) ∙ length-append (kinds_of_arms arms) (kinds_of_last last)))
       (sym (ap length (texts_if arms last) ∙ length-append (texts_of_arms arms) (texts_of_last last)))
-      (sym (ap length (steps_if arms last) ∙ length-append (steps_of_arms arms) (steps_of_last last))))
+      (sym (ap length (steps_if arms last) ∙ length-append (steps_of_arms arms) (steps_of_last last)))
+      (omega (arith, whole, parts, others)))
 
   -- a `while`, a block and a step, as statements
   pub form_while_wrote : (f : Form) (test : Expr) (body shown : List Stmt) (exits : Exits) (old new : Writer) → f ≡ form.While test body → shown ≡ body → WroteWhile p test shown old new
@@ -305,27 +360,29 @@ module _ (p : Program) where
   form_while_wrote f test body shown exits old new is e w =
       subst (λ (g : Form). WroteForm p g exits old new) (sym is)
       (wrote_as (subst (λ (b : List Stmt). WroteWhile p test b old new) e w) (while_code_is p test body old.scope.slots (here old) exits) refl (sym (ap length (kinds_row body)))
-      (sym (ap length (texts_row body))) (sym (ap length (steps_row body))))
+      (sym (ap length (texts_row body))) (sym (ap length (steps_row body))) (sym (ap length (asked_while p (form.While test body) test body old.scope.slots old.scope.next refl))))
 
   pub form_block_wrote : (f : Form) (body shown : List Stmt) (exits : Exits) (old new : Writer) → f ≡ form.Block body → shown ≡ body → WroteBlock p shown exits old new → WroteForm p f exits old new
   form_block_wrote f body shown exits old new is e w =
       subst (λ (g : Form). WroteForm p g exits old new) (sym is)
       (wrote_as (subst (λ (b : List Stmt). WroteBlock p b exits old new) e w) (row_code_is p body old.scope.slots (here old) exits) refl (sym (ap length (kinds_row body)))
-      (sym (ap length (texts_row body))) (sym (ap length (steps_row body))))
+      (sym (ap length (texts_row body))) (sym (ap length (steps_row body))) (sym (ap length (asked_block p (form.Block body) body old.scope.slots old.scope.next refl))))
 
   pub form_par_wrote : (f : Form) (blocks shown : List RoutineBlock) (exits : Exits) (old new : Writer) → f ≡ form.Par blocks → shown ≡ blocks → WroteStep p shown old new → WroteForm p f exits old new
   form_par_wrote f blocks shown exits old new is e w =
       subst (λ (g : Form). WroteForm p g exits old new) (sym is)
       (wrote_as (subst (λ (b : List RoutineBlock). WroteStep p b old new) e w) (λ j. widths_code p old.scope.slots (blocks_is blocks j) (length old.instrs)
-      ++ i.Par old.block (length (blocks_is blocks j)) ∷ []) refl refl refl (sym (ap length (blocks_is blocks))))
+      ++ i.Par old.block (length (blocks_is blocks j)) ∷ []) refl refl refl (sym (ap length (blocks_is blocks))) refl)
 
   -- A `for`. What its first statement declares is visible up to the end of the loop; its last one is a change, which declares nothing.
   for_wrote : (first : Form) (test : Expr) (next : Form) (body : List Stmt) (exits : Exits) (around : Around) (old one two three four : Writer) (instrs : List Instr) → ForIs p first test next body
-      → WroteForm p first exits old one → WroteTest p test body (Some next) around one two → WroteBlock p body (record { on_break = around.out; on_continue = around.behind }) two three
+      → WroteForm p first exits old one
+      → WroteTest p test (statements_size p body one.scope.slots one.scope.next) (form_size p next one.scope.slots (one.scope.next + length (kinds_of body))) 2 around one two
+      → WroteBlock p body (record { on_break = around.out; on_continue = around.behind }) two three
       → WroteForm p next exits three four
       → instrs ≡ four.instrs ++ i.Loop around.test ∷ []
       → Wrote (for_code p first test next body old.scope.slots (here old) exits) (slots_after old.scope.slots old.scope.next first) (length (kinds_in first ++ kinds_of body)) (length (texts_of body))
-      (length (steps_of body)) old (record four { instrs = instrs })
+      (length (steps_of body)) (length (asked_by_for p first next body old.scope.slots old.scope.next)) old (record four { instrs = instrs })
   for_wrote first test next body exits around old one two three four instrs is w t block w' e =
       let inner = slots_after old.scope.slots old.scope.next first in
       let head = beyond p old.scope.slots (here old) first in
@@ -352,6 +409,13 @@ module _ (p : Program) where
       let no_first_texts = ap length (simple_texts first is.first_simple) in
       let no_first_steps = ap length (simple_steps first is.first_simple) in
       let kinds_both = length-append (kinds_in first) (kinds_of body) in
+      let asked_first : List ℕ = asked p first old.scope.slots old.scope.next in
+      let asked_inner : List ℕ = form_size p next inner step.slot ∷ asked_inside p body inner begin.slot in
+      let asked_next : List ℕ = asked p next inner step.slot in
+      let all_asked = length-append asked_first (asked_inner ++ asked_next) in
+      let rest_asked = length-append asked_inner asked_next in
+      let in_block : length (asked_by p body two.scope.slots two.scope.next) ≡ length (asked_by p body inner begin.slot) = (λ j. length (asked_by p body (two_is j) (begin_is j).slot)) in
+      let in_next : length (asked p next three.scope.slots three.scope.next) ≡ length asked_next = (λ j. length (asked p next (three_is j) (step_is j).slot)) in
       wrote_as (pushed (i.Loop around.test) instrs (wrote_then (wrote_then (wrote_then w t.code) block) w') e)
       (sym ((λ j. before ++ (code_of p (w.slots j) test (head_is j).place ++ i.Branch (out_is j) ∷ [])
       ++ statements_code p body (two_is j) (begin_is j) (record { on_break = out_is j; on_continue = behind_is j })
@@ -360,12 +424,14 @@ module _ (p : Program) where
       (ap (λ c. c ++ inside) (sym (append_assoc before tested (i.Branch (back + 1) ∷ []))) ∙ append_assoc (before ++ tested) (i.Branch (back + 1) ∷ []) inside)))
       (change_slots three.scope.slots three.scope.next next is.next_change ∙ three_is)
       (omega (arith, no_kinds, kinds_both)) (omega (arith, no_texts, no_first_texts)) (omega (arith, no_steps, no_first_steps))
+      (omega (arith, all_asked, rest_asked, in_block, in_next))
 
   -- the same, where the locals of the loop are left behind it
   pub form_for_wrote : (f : Form) (first first' : Stmt) (test : Expr) (next next' : Stmt) (body inside inside' : List Stmt) (exits : Exits) (around : Around) (mark : ℕ)
       (old one two three four : Writer) (instrs : List Instr) (scope : Scoped)
       → f ≡ form.For first test next body → first' ≡ first → next' ≡ next → inside ≡ body → inside' ≡ body → FormIs p f → mark ≡ length old.scope.slots
-      → WroteForm p first'.form exits old one → WroteTest p test inside (Some next'.form) around one two
+      → WroteForm p first'.form exits old one
+      → WroteTest p test (statements_size p inside one.scope.slots one.scope.next) (form_size p next'.form one.scope.slots (one.scope.next + length (kinds_of inside))) 2 around one two
       → WroteBlock p inside' (record { on_break = around.out; on_continue = around.behind }) two three → WroteForm p next'.form exits three four
       → instrs ≡ four.instrs ++ i.Loop around.test ∷ [] → scope ≡ record { slots = take mark four.scope.slots; next = four.scope.next }
       → WroteForm p f exits old (record four { instrs = instrs; scope = scope })
@@ -373,14 +439,16 @@ module _ (p : Program) where
       let whole =
       for_wrote first.form test next.form body exits around old one two three four instrs (is_for p f first test next body is shape)
       (subst (λ (s : Stmt). WroteForm p s.form exits old one) first_is w)
-      (subst (λ (b : List Stmt). WroteTest p test b (Some next.form) around one two) inside_is (subst (λ (s : Stmt). WroteTest p test inside (Some s.form) around one two) next_is t))
+      (subst (λ (b : List Stmt). WroteTest p test (statements_size p b one.scope.slots one.scope.next) (form_size p next.form one.scope.slots (one.scope.next + length (kinds_of b))) 2 around one two) inside_is
+      (subst (λ (s : Stmt). WroteTest p test (statements_size p inside one.scope.slots one.scope.next) (form_size p s.form one.scope.slots (one.scope.next + length (kinds_of inside))) 2 around one two) next_is t))
       (subst (λ (b : List Stmt). WroteBlock p b (record { on_break = around.out; on_continue = around.behind }) two three) inside_is' block)
       (subst (λ (s : Stmt). WroteForm p s.form exits three four) next_is w') e in
       let slots_left : take mark four.scope.slots ≡ old.scope.slots = (λ j. take (marked j) (whole.slots j)) ∙ left_one old.scope.slots old.scope.next first.form in
       subst (λ (g : Form). WroteForm p g exits old (record four { instrs = instrs; scope = scope })) (sym is)
       (wrote_as (left old.scope.slots scope whole (left_is ∙ ap (λ (ss : Slots). record { slots = ss; next = four.scope.next }) slots_left))
       (for_code_is p first test next body old.scope.slots (here old) exits) refl (sym (ap length (kinds_for (form.For first test next body) first test next body refl)))
-      (sym (ap length (texts_row body))) (sym (ap length (steps_row body))))
+      (sym (ap length (texts_row body))) (sym (ap length (steps_row body)))
+      (sym (ap length (asked_for p (form.For first test next body) first test next body old.scope.slots old.scope.next refl))))
 
 -- ---- single statements
 
@@ -420,6 +488,8 @@ item_wrote p e index shown instr meant area items old one two three shown_is are
       locals = omega arith;
       texts = omega arith;
       blocks = omega arith;
+      sizes = refl;
+      asked = omega arith;
     }
 
 pub set_wrote : (p : Program) (q : Place) (e index shown : Expr) (area : Area) (items : ℕ) (old : Writer) (one two three : List Instr) → (out-Place q).index ≡ Some index → shown ≡ index
@@ -428,7 +498,7 @@ pub set_wrote : (p : Program) (q : Place) (e index shown : Expr) (area : Area) (
     → WroteCode (set_code p old.scope.slots q e (length old.instrs)) old (record old { instrs = three })
 set_wrote p q e index shown area items old one two three is shown_is area_is items_is first second third =
     wrote_as (item_wrote p e index shown i.SetItem (declared (area_of p.shared (out-Place q).name.text)) area items old one two three shown_is area_is items_is first second third)
-    (set_element p old.scope.slots q e index (length old.instrs) is) refl refl refl refl
+    (set_element p old.scope.slots q e index (length old.instrs) is) refl refl refl refl refl
 
 pub add_wrote : (p : Program) (q : Place) (e index shown : Expr) (area : Area) (items : ℕ) (old : Writer) (one two three : List Instr) → (out-Place q).index ≡ Some index → shown ≡ index
     → area ≡ declared (area_of p.shared (out-Place q).name.text) → items ≡ unwrap_or area.items 0
@@ -436,4 +506,4 @@ pub add_wrote : (p : Program) (q : Place) (e index shown : Expr) (area : Area) (
     → WroteCode (add_to_code p old.scope.slots q e (length old.instrs)) old (record old { instrs = three })
 add_wrote p q e index shown area items old one two three is shown_is area_is items_is first second third =
     wrote_as (item_wrote p e index shown i.AddItem (declared (area_of p.shared (out-Place q).name.text)) area items old one two three shown_is area_is items_is first second third)
-    (add_element p old.scope.slots q e index (length old.instrs) is) refl refl refl refl
+    (add_element p old.scope.slots q e index (length old.instrs) is) refl refl refl refl refl

@@ -16,7 +16,7 @@ use csl_tree::program::{Function, Param, RoutineBlock, Stmt};
 use expression_code::kinds::push_kinds;
 use expression_code::names::Names;
 use expression_code::scope::{Scope, kind_of};
-use expression_code::sizes::loop_sizes;
+use expression_code::sizes::body_sizes;
 use expression_code::writer::Writer;
 use sqlite_items::Items;
 use std::alloc::Global;
@@ -48,7 +48,7 @@ fn push_closing(instrs: &mut Items<Instr>, gives: tree::Gives) -> Result<(), NoM
 fn body_code(
     alloc: Global,
     names: &Names,
-    scope: Scope,
+    mut scope: Scope,
     body: &[Stmt],
 ) -> Result<Items<Instr>, NoMemory>
     requires shape { StatementsAre names.now body.now }
@@ -56,13 +56,15 @@ fn body_code(
     ensures { IfOk result (λ instrs. instrs ≡ statements_code names.now body.now scope.slots (modules.beginning scope.next)
         (modules.ends_at (statements_size names.now body.now scope.slots scope.next))) }
 {
+    let (size, sizes) = body_sizes(alloc, names, &mut scope, body)?;
     let mut w = Writer {
         instrs: Items::new(alloc),
         scope,
         text: 0,
         block: 0,
+        sizes,
+        asked: 0,
     };
-    let (size, _) = loop_sizes(names, &mut w.scope, body, None)?;
     push_block(&mut w, alloc, names, body, size, size)?;
     Ok(w.instrs)
 }

@@ -7,8 +7,8 @@ ghost use Rattle.compiled_code.specs.Statements as statements;
 ghost use Rattle.expression_code.specs.Lists.{adding_size, StatementsAre, AllArmsAre, LastBlockIs};
 ghost use Rattle.expression_code.specs.Counts.{IsSmall};
 ghost use Rattle.compile_steps.specs.Writing.{FormFits, AllFit, ArmsFit, LastFits, WhileFits, TestFits, WroteCode, WroteDeclare, WroteTest};
+ghost use Rattle.compile_steps.specs.Writing.{FormMeasured, AllMeasured, InsideMeasured, ArmsMeasured, LastMeasured};
 ghost use Rattle.compile_steps.specs.Writing.{WrotePrint, WroteStep, WroteForm, WroteAll, WroteBlock, WroteArms, WroteLast, WroteWhile};
-ghost use Rattle.std.specs.Option.{option_copied};
 
 use bytecode::Instr;
 use cal_terms::NoMemory;
@@ -16,9 +16,8 @@ use csl_tree::name::Text;
 use csl_tree::program::{Arm, Call, Expr, Form, Gives, Item, Place, RoutineBlock, Stmt, Ty};
 use expression_code::names::Names;
 use expression_code::scope::kind_of;
-use expression_code::sizes::{loop_sizes, size_here};
 use expression_code::values::{printed_items, push_call, push_items, push_value, push_widths};
-use expression_code::writer::{Writer, length_of};
+use expression_code::writer::{Writer, length_of, next_size};
 use sqlite_items::Items;
 use std::alloc::Global;
 
@@ -163,7 +162,8 @@ fn push_call_statement(w: &mut Writer, names: &Names, call: &Call) -> Result<(),
     Ok(())
 }
 
-/// Places around a block that has a test in front and a jump behind: of the test, of what stands behind the block, and of what stands behind the jump.
+/// Places around a block that has a test in front and a jump behind: of the test, of what stands behind the block, and of what stands
+/// behind the jump.
 #[derive(Clone, Copy)]
 struct Around {
     test: u32,
@@ -171,20 +171,20 @@ struct Around {
     out: u32,
 }
 
-/// Writes the code of a test in front of a block. Where it is false, it leads on past the block, the statement behind the block and a jump.
+/// Writes the code of a test in front of a block of so many instructions. Where it is false, it leads on past the block, `more`
+/// instructions behind the block and a jump.
 fn push_test(
     w: &mut Writer,
     names: &Names,
     test: &Expr,
-    body: &[Stmt],
-    next: Option<&Form>,
+    inside: u32,
+    more: u32,
 ) -> Result<Around, NoMemory>
-    requires { TestFits names.now test.now body.now (option_copied next) w.old }
-    ensures { IfOk result (λ around. WroteTest names.now test.now body.now (option_copied next.entry) around w.old w.new) }
+    requires { TestFits test.now inside more w.old }
+    ensures { IfOk result (λ around. WroteTest names.now test.now inside more 0 around w.old w.new) }
 {
     let test_at = length_of(w.instrs.len());
     push_value(&mut w.instrs, names, &w.scope, test)?;
-    let (inside, more) = loop_sizes(names, &mut w.scope, body, next)?;
     let begin = length_of(w.instrs.len()) + 1;
     let behind = begin + inside;
     let out = behind + more + 1;
@@ -208,6 +208,7 @@ pub fn push_form(
 ) -> Result<(), NoMemory>
     requires shape { FormIs names.now form.now }
     requires room { FormFits names.now form.now w.old }
+    requires measured { FormMeasured names.now form.now w.old }
     ensures { OnOk result (WroteForm names.now form.now (record { on_break = on_break; on_continue = on_continue }) w.old w.new) }
 {
     match form {
@@ -215,7 +216,7 @@ pub fn push_form(
         Form::Set { place, value } => push_set(w, names, place, value),
         Form::AddTo { place, value } => push_add(w, names, place, value),
         Form::If { arms, last } => {
-            let size = size_here(names, &mut w.scope, form)?;
+            let size = next_size(w);
             let end = length_of(w.instrs.len()) + size;
             push_arms(w, alloc, names, arms.as_slice(), on_break, on_continue, end)?;
             push_last(w, alloc, names, last, on_break, on_continue)
@@ -230,7 +231,9 @@ pub fn push_form(
             let mark = w.scope.mark();
             push_form(w, alloc, names, &first.get().form, on_break, on_continue)?;
             let next = &next.get().form;
-            let at = push_test(w, names, test, body.as_slice(), Some(next))?;
+            let step = next_size(w);
+            let inside = next_size(w);
+            let at = push_test(w, names, test, inside, step)?;
             push_block(w, alloc, names, body.as_slice(), at.out, at.behind)?;
             push_form(w, alloc, names, next, on_break, on_continue)?;
             w.instrs.push(Instr::Loop(at.test))?;
@@ -269,9 +272,11 @@ fn push_while(
 ) -> Result<(), NoMemory>
     requires shape { StatementsAre names.now body.now }
     requires room { WhileFits names.now test.now body.now w.old }
+    requires measured { InsideMeasured names.now body.now w.old }
     ensures { OnOk result (WroteWhile names.now test.now body.now w.old w.new) }
 {
-    let at = push_test(w, names, test, body, None)?;
+    let inside = next_size(w);
+    let at = push_test(w, names, test, inside, 0)?;
     push_block(w, alloc, names, body, at.out, at.behind)?;
     w.instrs.push(Instr::Loop(at.test))?;
     Ok(())
@@ -289,6 +294,7 @@ pub fn push_block(
 ) -> Result<(), NoMemory>
     requires shape { StatementsAre names.now body.now }
     requires room { AllFit names.now body.now w.old }
+    requires measured { AllMeasured names.now body.now w.old }
     ensures { OnOk result (WroteBlock names.now body.now (record { on_break = on_break; on_continue = on_continue }) w.old w.new) }
 {
     let mark = w.scope.mark();
@@ -309,6 +315,7 @@ fn push_all(
 ) -> Result<(), NoMemory>
     requires shape { StatementsAre names.now body.now }
     requires room { AllFit names.now body.now w.old }
+    requires measured { AllMeasured names.now body.now w.old }
     ensures { OnOk result (WroteAll names.now body.now (record { on_break = on_break; on_continue = on_continue }) w.old w.new) }
 {
     for s in body {
@@ -330,10 +337,12 @@ fn push_arms(
 ) -> Result<(), NoMemory>
     requires shape { AllArmsAre names.now arms.now }
     requires room { ArmsFit names.now arms.now w.old }
+    requires measured { ArmsMeasured names.now arms.now w.old }
     ensures { OnOk result (WroteArms names.now arms.now (record { on_break = on_break; on_continue = on_continue }) end w.old w.new) }
 {
     for arm in arms {
-        push_test(w, names, &arm.test, arm.body.as_slice(), None)?;
+        let inside = next_size(w);
+        push_test(w, names, &arm.test, inside, 0)?;
         push_block(w, alloc, names, arm.body.as_slice(), on_break, on_continue)?;
         w.instrs.push(Instr::Jump(end))?;
     }
@@ -352,6 +361,7 @@ fn push_last(
 ) -> Result<(), NoMemory>
     requires shape { LastBlockIs names.now last.now }
     requires room { LastFits names.now last.now w.old }
+    requires measured { LastMeasured names.now last.now w.old }
     ensures { OnOk result (WroteLast names.now last.now (record { on_break = on_break; on_continue = on_continue }) w.old w.new) }
 {
     match last {

@@ -15,7 +15,7 @@ use Rattle.csl_tree.specs.declared.program.Node.TheBlock.{shape-the_row-Expr-0, 
 use Rattle.csl_tree.specs.declared.program.Place.{Place, Place', out-Place, is-Place'}
 use Rattle.csl_tree.specs.declared.program.Call.{Call, out-Call, is-Call'}
 use Rattle.compiled_code.specs.Slots.{Slots}
-use Rattle.compiled_code.specs.Sizes.{operator_size, value_size, place_size, call_size, values_size, size_of, items_size, widths_size, item_texts}
+use Rattle.compiled_code.specs.Sizes.{operator_size, value_size, place_size, call_size, values_size, size_of, items_size, widths_size}
 use Rattle.expression_code.specs.Lists.{sizes_of, adding_size}
 
 -- ---- expressions

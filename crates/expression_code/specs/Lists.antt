@@ -121,11 +121,6 @@ module _ (p : Program) where
       form_size p first slots slot + size_of test + 1 + statements_size body inner begin + form_size p next inner
       (begin + length (kinds_of body)) + 1
 
-  -- a statement behind the block of a loop, if there is one
-  abbrev pub step_size : Option Form → Slots → ℕ → ℕ
-  step_size None slots slot = 0
-  step_size (Some form) slots slot = form_size p form slots slot
-
   -- where code goes on behind several statements
   abbrev pub beyond_all : Slots → At → List Stmt → At
   beyond_all slots at body = record {

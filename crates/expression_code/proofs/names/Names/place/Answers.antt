@@ -3,7 +3,6 @@ use Rattle.std.specs.Prelude.{unwrap_or}
 use Rattle.std.specs.Option.{option_copied}
 use Rattle.compiled_code.specs.Values.{function_number}
 use Rattle.type_check.specs.Places.{place_among}
-use Rattle.expression_code.specs.Areas.{number_among}
 use Rattle.expression_code.proofs.AreaLemmas.{number_within}
 use Rattle.expression_code.proofs.names.Names.place.Goals as goal
 
