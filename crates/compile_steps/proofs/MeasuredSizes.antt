@@ -111,7 +111,8 @@ module _ (p : Program) where
 
       pub arms_measured : (shown : List Arm) → shown ≡ arms → ArmsMeasured p shown taken
       arms_measured shown same =
-          subst (λ (a : List ℕ). Measured a taken) (λ j. asked_by_arms p (sym same j) (sym e j).scope.slots (sym e j).scope.next) (measured_front (asked_by_arms p arms w.scope.slots w.scope.next) _ taken behind)
+          subst (λ (a : List ℕ). Measured a taken) (λ j. asked_by_arms p (sym same j) (sym e j).scope.slots (sym e j).scope.next)
+          (measured_front (asked_by_arms p arms w.scope.slots w.scope.next) _ taken behind)
 
       pub last_measured : (shown : List Arm) (exits : Exits) (end : ℕ) (mid : Writer) → shown ≡ arms → WroteArms p shown exits end taken mid → LastMeasured p last mid
       last_measured shown exits end mid same wrote =
@@ -149,7 +150,8 @@ module _ (p : Program) where
         let begin = old.scope.next + length (kinds_in first'.form) in
         measured_front (asked p first'.form old.scope.slots old.scope.next) _ old
         (subst (λ (a : List ℕ). Measured a old)
-        (asked_for_parts p f first first' test next next' body inside old.scope.slots old.scope.next (record { slots = slots; next = begin }) (record { slots = slots; next = begin + length (kinds_of inside) })
+        (asked_for_parts p f first first' test next next' body inside old.scope.slots old.scope.next (record { slots = slots; next = begin })
+        (record { slots = slots; next = begin + length (kinds_of inside) })
         is first_is next_is inside_is refl refl refl refl) h)
 
     module _ (w : WroteForm p first'.form exits old one) where
@@ -203,7 +205,8 @@ module _ (p : Program) where
             let inner : WroteBlock p inside exits' after three = subst (λ (b : List Stmt). WroteBlock p b exits' after three) same wrote in
             let slots : three.scope.slots ≡ one.scope.slots = inner.slots ∙ t.slots in
             let locals : three.scope.next ≡ one.scope.next + length (kinds_of inside) = let e = inner.locals in let stays = slot_stays in omega (arith, e, stays) in
-            let count : length (asked_by p inside after.scope.slots after.scope.next) ≡ length (asked_by p inside one.scope.slots one.scope.next) = (λ j. length (asked_by p inside (t.slots j) (slot_stays j))) in
+            let count : length (asked_by p inside after.scope.slots after.scope.next) ≡ length (asked_by p inside one.scope.slots one.scope.next) =
+            (λ j. length (asked_by p inside (t.slots j) (slot_stays j))) in
             let taken : three.asked ≡ one.asked + length (step ∷ block) = let e = t.asked in let g = inner.asked in omega (arith, e, g, count) in
             subst (λ (a : List ℕ). Measured a three) (λ j. asked p next'.form (sym slots j) (sym locals j))
             (measured_rest (step ∷ block) last one three loop_measured (inner.sizes ∙ t.sizes) taken)

@@ -239,7 +239,8 @@ module _ (p : Program) where
       (subst (λ (w : Writer). WroteTest p test size more 0 around w new) e t))
 
   -- the block and what stands behind it are as long as the two sizes that are taken
-  pub test_taken_twice : (test : Expr) (inside size more step : ℕ) (around : Around) (old one two new : Writer) → one ≡ record old { asked = old.asked + 1 } → two ≡ record one { asked = one.asked + 1 }
+  pub test_taken_twice : (test : Expr) (inside size more step : ℕ) (around : Around) (old one two new : Writer) → one ≡ record old { asked = old.asked + 1 }
+      → two ≡ record one { asked = one.asked + 1 }
       → step ≡ more → size ≡ inside → WroteTest p test size step 0 around two new → WroteTest p test inside more 2 around old new
   test_taken_twice test inside size more step around old one two new e f step_is is t =
       let first : WroteTest p test inside step 1 around one new = test_taken test inside size step around one two new f is t in
@@ -269,7 +270,8 @@ module _ (p : Program) where
       ∙ block_ends old.scope.slots (slots_after_all old.scope.slots old.scope.next body) old.scope.next body refl))
 
   -- a `while`
-  pub while_wrote : (test : Expr) (body : List Stmt) (around : Around) (old mid after : Writer) (instrs : List Instr) → WroteTest p test (statements_size p body old.scope.slots old.scope.next) 0 1 around old mid
+  pub while_wrote : (test : Expr) (body : List Stmt) (around : Around) (old mid after : Writer) (instrs : List Instr)
+      → WroteTest p test (statements_size p body old.scope.slots old.scope.next) 0 1 around old mid
       → WroteBlock p body (record { on_break = around.out; on_continue = around.behind }) mid after → instrs ≡ after.instrs ++ i.Loop around.test ∷ []
       → WroteWhile p test body old (record after { instrs = instrs })
   while_wrote test body around old mid after instrs t block e =
@@ -315,14 +317,16 @@ module _ (p : Program) where
       slots_rest
       (let l = length-append (kinds_of body) (kinds_of_arms rest) in omega (arith, l)) (let l = length-append (texts_of body) (texts_of_arms rest) in omega (arith, l))
       (let l = length-append (steps_of body) (steps_of_arms rest) in omega (arith, l))
-      (let first : length (asked_by p body mid.scope.slots mid.scope.next) ≡ length (asked_by p body old.scope.slots old.scope.next) = (λ j. length (asked_by p body (t.code.slots j) (at_mid j).slot)) in
+      (let first : length (asked_by p body mid.scope.slots mid.scope.next) ≡ length (asked_by p body old.scope.slots old.scope.next) =
+      (λ j. length (asked_by p body (t.code.slots j) (at_mid j).slot)) in
       let next : length (asked_by_arms p rest after.scope.slots after.scope.next) ≡ length (asked_by_arms p rest old.scope.slots (old.scope.next + length (kinds_of body))) =
       (λ j. length (asked_by_arms p rest (slots_rest j) (at_after j).slot)) in
       let l = length-append (asked_inside p body old.scope.slots old.scope.next) (asked_by_arms p rest old.scope.slots (old.scope.next + length (kinds_of body))) in
       omega (arith, first, next, l))
 
   pub arms_wrote : (a : Arm) (rest : List Arm) (body : List Stmt) (exits : Exits) (end : ℕ) (around : Around) (old mid after new : Writer) (instrs : List Instr) → body ≡ (out-Arm a).body
-      → WroteTest p (out-Arm a).test (statements_size p (out-Arm a).body old.scope.slots old.scope.next) 0 1 around old mid → WroteBlock p body exits mid after → instrs ≡ after.instrs ++ i.Jump end ∷ []
+      → WroteTest p (out-Arm a).test (statements_size p (out-Arm a).body old.scope.slots old.scope.next) 0 1 around old mid → WroteBlock p body exits mid after
+      → instrs ≡ after.instrs ++ i.Jump end ∷ []
       → WroteArms p rest exits end (record after { instrs = instrs }) new
       → WroteArms p (a ∷ rest) exits end old new
   arms_wrote a rest body exits end around old mid after new instrs same t block e others =
@@ -343,7 +347,8 @@ module _ (p : Program) where
       let whole = ap length (asked_if p (form.If arms last) arms last old.scope.slots old.scope.next refl) in
       let parts = length-append ((all_arms_size p arms old.scope.slots old.scope.next + last_block_size p last old.scope.slots behind) ∷ asked_by_arms p arms old.scope.slots old.scope.next)
       (asked_by_last p last old.scope.slots behind) in
-      let others : length (asked_by_last p last mid.scope.slots mid.scope.next) ≡ length (asked_by_last p last old.scope.slots behind) = (λ j. length (asked_by_last p last (one.slots j) (at j).slot)) in
+      let others : length (asked_by_last p last mid.scope.slots mid.scope.next) ≡ length (asked_by_last p last old.scope.slots behind) =
+      (λ j. length (asked_by_last p last (one.slots j) (at j).slot)) in
       subst (λ (g : Form). WroteForm p g exits old new) (sym is)
       (wrote_as (wrote_then one last_part)
       (if_code_is p arms last old.scope.slots (here old) exits
@@ -439,8 +444,11 @@ module _ (p : Program) where
       let whole =
       for_wrote first.form test next.form body exits around old one two three four instrs (is_for p f first test next body is shape)
       (subst (λ (s : Stmt). WroteForm p s.form exits old one) first_is w)
-      (subst (λ (b : List Stmt). WroteTest p test (statements_size p b one.scope.slots one.scope.next) (form_size p next.form one.scope.slots (one.scope.next + length (kinds_of b))) 2 around one two) inside_is
-      (subst (λ (s : Stmt). WroteTest p test (statements_size p inside one.scope.slots one.scope.next) (form_size p s.form one.scope.slots (one.scope.next + length (kinds_of inside))) 2 around one two) next_is t))
+      (subst (λ (b : List Stmt). WroteTest p test (statements_size p b one.scope.slots one.scope.next) (form_size p next.form one.scope.slots (one.scope.next + length (kinds_of b))) 2 around one two)
+      inside_is
+      (subst (λ (s : Stmt).
+      WroteTest p test (statements_size p inside one.scope.slots one.scope.next) (form_size p s.form one.scope.slots (one.scope.next + length (kinds_of inside))) 2 around one two)
+      next_is t))
       (subst (λ (b : List Stmt). WroteBlock p b (record { on_break = around.out; on_continue = around.behind }) two three) inside_is' block)
       (subst (λ (s : Stmt). WroteForm p s.form exits three four) next_is w') e in
       let slots_left : take mark four.scope.slots ≡ old.scope.slots = (λ j. take (marked j) (whole.slots j)) ∙ left_one old.scope.slots old.scope.next first.form in

@@ -15,7 +15,8 @@ use Rattle.compile_steps.proofs.Written.{test_taken, test_taken_twice}
 use Rattle.compile_steps.proofs.Room.{first_fits, rest_fits, test_fits, inside_fits, while_fits, block_fits, widths_fit, blocks_fit, arms_fit, last_fits, arm_fits, other_arms_fit, for_first_fits}
 use Rattle.compile_steps.proofs.Room.{for_test_fits, for_body_fits, for_next_fits}
 use Rattle.compile_steps.proofs.MeasuredSizes.{measured_here, measured_first, first_measured, rest_measured, inside_measured, while_measured, block_measured, if_here, if_size, arms_measured}
-use Rattle.compile_steps.proofs.MeasuredSizes.{last_measured, arm_measured, other_arms_measured, for_first_measured, step_here, step_first, inside_here, inside_first, for_body_measured, for_next_measured}
+use Rattle.compile_steps.proofs.MeasuredSizes.{last_measured, arm_measured, other_arms_measured, for_first_measured, step_here, step_first, inside_here, inside_first}
+use Rattle.compile_steps.proofs.MeasuredSizes.{for_body_measured, for_next_measured}
 use Rattle.compile_steps.proofs.statements.+write.Goals as goal
 
 -- ---- statements
