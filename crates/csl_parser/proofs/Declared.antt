@@ -17,15 +17,14 @@ use Rattle.csl_tree.specs.declared.program.Shared.{Shared}
 use Rattle.expression_parser.specs.declared.ParseError.{ParseError}
 use Rattle.csl_grammar.specs.Stops.{IsEnded, BeginsOtherThan}
 use Rattle.csl_grammar.specs.Programs.{Each, MoreOf, ListOf, nothing, SpellsValue, plain, minus, SpellsInitial, unlisted, listed, SpellsShared, scalar, array, tally}
-use Rattle.csl_grammar.proofs.UniqueParts.{unique_value, unique_values, no_value_closes}
-use Rattle.expression_parser.specs.Reading.{Found, Refused, Fails, Answers, IsToken, Tok, tok, NameTok, name_tok, SizeTok, size_tok, Ret, ret, Then, seq, Either, this, that, ListUntil, MoreUntil}
-use Rattle.expression_parser.specs.Reading.{behind, number_of, natural_of, if_natural, stops_anywhere}
+use Rattle.csl_grammar.proofs.UniqueParts.{unique_value, unique_values}
+use Rattle.expression_parser.specs.Reading.{Found, Refused, Fails, Answers, IsToken, Tok, tok, NameTok, name_tok, SizeTok, size_tok, Ret, ret, Then, seq, Either, this, that, ListUntil}
+use Rattle.expression_parser.specs.Reading.{Completes, Parting, behind, number_of, natural_of, if_natural, stops_anywhere}
 use Rattle.csl_parser.specs.Chains.{scalar_of, tally_of, array_of, TallyRest, IntRest, AfterName, ArrayRest, AfterSize, ListedRest}
 use Rattle.expression_parser.proofs.Sequence.{Passes, Same, passes_same, passes_behind, passes_through, passed, passed_error, refused_here}
 use Rattle.expression_parser.proofs.Single.{some_token, ended_behind, token_found}
-use Rattle.expression_parser.proofs.Then.{Completes, Follows, completes_ret, completes_tok, completes_name, completes_size, completes_then, completes_this, completes_list, tok_follows, name_follows}
-use Rattle.expression_parser.proofs.Then.{size_follows, then_passes, tok_found, passes_this, passes_that, begins_other, no_name, list_nothing, list_err, list_begun, more_err, more_step, last_err}
-use Rattle.expression_parser.proofs.Then.{last_ok}
+use Rattle.expression_parser.proofs.Then.{Follows, completes_ret, completes_tok, completes_name, completes_size, completes_then, completes_this, completes_list, tok_follows, name_follows}
+use Rattle.expression_parser.proofs.Then.{size_follows, then_passes, tok_found, passes_this, passes_that, begins_other, no_name}
 
 -- ---- what completes a declaration
 
@@ -253,37 +252,13 @@ negative_refused sign tokens first rest s split none =
     subst at (sym split) (refused_here (behind sign SpellsValue) stops_anywhere first rest (λ others r v d h. no_negative_here d refl s none)
     (some_token (kind.Number (pos 0)) ∷ []) (record { at = sign.at; number = neg_ℤ (pos 0) }) (λ others. minus s refl))
 
-once : (tokens middle middle' : List Token) (x x' : Valued) → SpellsValue tokens middle x → SpellsValue tokens middle' x' → stops_anywhere middle → stops_anywhere middle'
-    → (middle ≡ middle') × (x ≡ x')
-once tokens middle middle' x x' d d' s s' = unique_value d d' refl
-
-abbrev brace : TokenKind
-brace = kind.Mark mark.CloseBrace
-
-pub values_nothing : (tokens : List Token) (first : Token) (rest : List Token) → IsEnded tokens → tokens ≡ first ∷ rest → first.kind ≡ brace
-    → Found (ListUntil brace SpellsValue) stops_anywhere tokens rest []
-values_nothing tokens first rest ended split same =
-    list_nothing brace SpellsValue stops_anywhere once (λ _ _ _ _. tt) (λ _ _ _ _ _ d. no_value_closes d) (λ _ _ _. tt) (λ _ _ _. tt) (λ h. cc) some_value tokens first rest ended split same (λ h. cc)
-
-pub values_err : (tokens : List Token) (e : ParseError) → BeginsOtherThan brace tokens → Fails SpellsValue stops_anywhere tokens e → Fails (ListUntil brace SpellsValue) stops_anywhere tokens e
-values_err = list_err brace SpellsValue stops_anywhere once (λ _ _ _ _. tt) (λ _ _ _ _ _ d. no_value_closes d) (λ _ _ _. tt) (λ _ _ _. tt) (λ h. cc) some_value
-
-pub values_begun : (tokens middle : List Token) (x : Valued) → BeginsOtherThan brace tokens → Found SpellsValue stops_anywhere tokens middle x
-    → Passes (MoreUntil brace SpellsValue (x ∷ [])) (ListUntil brace SpellsValue) stops_anywhere middle tokens
-values_begun = list_begun brace SpellsValue stops_anywhere once (λ _ _ _ _. tt) (λ _ _ _ _ _ d. no_value_closes d) (λ _ _ _. tt) (λ _ _ _. tt) (λ h. cc) some_value
-
-pub values_more_err : (sofar : List Valued) (tokens : List Token) (comma : Token) (rest : List Token) (e : ParseError) → IsEnded tokens → tokens ≡ comma ∷ rest → comma.kind ≡ kind.Mark mark.Comma
-    → Fails SpellsValue stops_anywhere rest e → Fails (MoreUntil brace SpellsValue sofar) stops_anywhere tokens e
-values_more_err = more_err brace SpellsValue stops_anywhere once (λ _ _ _ _. tt) (λ _ _ _ _ _ d. no_value_closes d) (λ _ _ _. tt) (λ _ _ _. tt) (λ h. cc) some_value
-
-pub values_more : (sofar : List Valued) (tokens : List Token) (comma : Token) (rest middle : List Token) (x : Valued) → IsEnded tokens → tokens ≡ comma ∷ rest → comma.kind ≡ kind.Mark mark.Comma
-    → Found SpellsValue stops_anywhere rest middle x → Passes (MoreUntil brace SpellsValue (sofar ++ x ∷ [])) (MoreUntil brace SpellsValue sofar) stops_anywhere middle tokens
-values_more = more_step brace SpellsValue stops_anywhere once (λ _ _ _ _. tt) (λ _ _ _ _ _ d. no_value_closes d) (λ _ _ _. tt) (λ _ _ _. tt) (λ h. cc) some_value
-
-pub values_last_err : (sofar : List Valued) (tokens : List Token) (e : ParseError) → BeginsOtherThan (kind.Mark mark.Comma) tokens → Fails (IsToken brace) stops_anywhere tokens e
-    → Fails (MoreUntil brace SpellsValue sofar) stops_anywhere tokens e
-values_last_err = last_err brace SpellsValue stops_anywhere once (λ _ _ _ _. tt) (λ _ _ _ _ _ d. no_value_closes d) (λ _ _ _. tt) (λ _ _ _. tt) (λ h. cc) some_value
-
-pub values_last : (sofar : List Valued) (tokens rest : List Token) (closing : Token) → BeginsOtherThan (kind.Mark mark.Comma) tokens → Found (IsToken brace) stops_anywhere tokens rest closing
-    → Found (MoreUntil brace SpellsValue sofar) stops_anywhere tokens rest sofar
-values_last = last_ok brace SpellsValue stops_anywhere once (λ _ _ _ _. tt) (λ _ _ _ _ _ d. no_value_closes d) (λ _ _ _. tt) (λ _ _ _. tt) (λ h. cc) some_value
+pub values_parted : Parting (kind.Mark mark.CloseBrace) SpellsValue stops_anywhere
+values_parted = record {
+  unique = λ tokens middle middle' x x' d d' s s'. unique_value d d' refl;
+  same_first = λ _ _ _ _. tt;
+  at_end = λ _ _ _. tt;
+  at_comma = λ _ _ _. tt;
+  no_comma = λ h. cc;
+  no_end = λ h. cc;
+  sample = some_value;
+}

@@ -18,14 +18,13 @@ use Rattle.csl_tree.specs.declared.program.Stmt.{Stmt}
 use Rattle.expression_parser.specs.declared.ParseError.{ParseError}
 use Rattle.csl_grammar.specs.Stops.{IsEnded, BeginsOtherThan}
 use Rattle.csl_grammar.specs.Programs.{Each, MoreOf, ListOf, type_word, result_word, SpellsShared, SpellsParam, param, SpellsFunction, function, SpellsBlock, braces, none}
-use Rattle.csl_grammar.proofs.UniqueParts.{type_word-same, unique_shared, unique_param, unique_params, no_param_closes}
+use Rattle.csl_grammar.proofs.UniqueParts.{type_word-same, unique_shared, unique_param, unique_params}
 use Rattle.csl_grammar.proofs.UniqueProgram.{result_word-same, unique_block, unique_function, unique_each, no_shared, no_function}
-use Rattle.expression_parser.specs.Reading.{Found, Refused, Fails, Answers, IsToken, Tok, tok, NameTok, name_tok, Ret, ret, Then, seq, ListUntil, MoreUntil, Until, behind, stops_anywhere}
+use Rattle.expression_parser.specs.Reading.{Found, Refused, Fails, Answers, IsToken, Tok, tok, NameTok, name_tok, Ret, ret, Then, seq, ListUntil, Until, Completes, Parting, Repeating, behind, stops_anywhere}
 use Rattle.csl_parser.specs.Program.{param_of, function_of, program_of, ParamRest, ParamsRest, FunctionRest, MainRest, FunctionsRest, ProgramTokens}
 use Rattle.expression_parser.proofs.Sequence.{Passes, passes_same, refused_here}
 use Rattle.expression_parser.proofs.Single.{some_token}
-use Rattle.expression_parser.proofs.Then.{Completes, Follows, completes_ret, completes_tok, completes_name, completes_then, completes_list, completes_until, tok_follows, name_follows, no_name}
-use Rattle.expression_parser.proofs.Then.{list_nothing, list_err, list_begun, more_err, more_step, last_err, last_ok, until_done, until_err, until_more}
+use Rattle.expression_parser.proofs.Then.{Follows, completes_ret, completes_tok, completes_name, completes_then, completes_list, completes_until, tok_follows, name_follows, no_name}
 
 abbrev round : TokenKind
 round = kind.Mark mark.CloseParen
@@ -74,38 +73,16 @@ param_refused tokens first rest split never =
 
 -- ---- the parameters of a function
 
-param_once : (tokens middle middle' : List Token) (x x' : Param) → SpellsParam tokens middle x → SpellsParam tokens middle' x' → stops_anywhere middle → stops_anywhere middle'
-    → (middle ≡ middle') × (x ≡ x')
-param_once tokens middle middle' x x' d d' s s' = unique_param d d' refl
-
-pub params_nothing : (tokens : List Token) (first : Token) (rest : List Token) → IsEnded tokens → tokens ≡ first ∷ rest → first.kind ≡ round
-    → Found (ListUntil round SpellsParam) stops_anywhere tokens rest []
-params_nothing tokens first rest ended split same =
-    list_nothing round SpellsParam stops_anywhere param_once (λ _ _ _ _. tt) (λ _ _ _ _ _ d. no_param_closes d) (λ _ _ _. tt) (λ _ _ _. tt) (λ h. cc) some_param tokens first rest ended split same
-    (λ h. cc)
-
-pub params_err : (tokens : List Token) (e : ParseError) → BeginsOtherThan round tokens → Fails SpellsParam stops_anywhere tokens e → Fails (ListUntil round SpellsParam) stops_anywhere tokens e
-params_err = list_err round SpellsParam stops_anywhere param_once (λ _ _ _ _. tt) (λ _ _ _ _ _ d. no_param_closes d) (λ _ _ _. tt) (λ _ _ _. tt) (λ h. cc) some_param
-
-pub params_begun : (tokens middle : List Token) (x : Param) → BeginsOtherThan round tokens → Found SpellsParam stops_anywhere tokens middle x
-    → Passes (MoreUntil round SpellsParam (x ∷ [])) (ListUntil round SpellsParam) stops_anywhere middle tokens
-params_begun = list_begun round SpellsParam stops_anywhere param_once (λ _ _ _ _. tt) (λ _ _ _ _ _ d. no_param_closes d) (λ _ _ _. tt) (λ _ _ _. tt) (λ h. cc) some_param
-
-pub params_more_err : (sofar : List Param) (tokens : List Token) (comma : Token) (rest : List Token) (e : ParseError) → IsEnded tokens → tokens ≡ comma ∷ rest → comma.kind ≡ kind.Mark mark.Comma
-    → Fails SpellsParam stops_anywhere rest e → Fails (MoreUntil round SpellsParam sofar) stops_anywhere tokens e
-params_more_err = more_err round SpellsParam stops_anywhere param_once (λ _ _ _ _. tt) (λ _ _ _ _ _ d. no_param_closes d) (λ _ _ _. tt) (λ _ _ _. tt) (λ h. cc) some_param
-
-pub params_more : (sofar : List Param) (tokens : List Token) (comma : Token) (rest middle : List Token) (x : Param) → IsEnded tokens → tokens ≡ comma ∷ rest → comma.kind ≡ kind.Mark mark.Comma
-    → Found SpellsParam stops_anywhere rest middle x → Passes (MoreUntil round SpellsParam (sofar ++ x ∷ [])) (MoreUntil round SpellsParam sofar) stops_anywhere middle tokens
-params_more = more_step round SpellsParam stops_anywhere param_once (λ _ _ _ _. tt) (λ _ _ _ _ _ d. no_param_closes d) (λ _ _ _. tt) (λ _ _ _. tt) (λ h. cc) some_param
-
-pub params_last_err : (sofar : List Param) (tokens : List Token) (e : ParseError) → BeginsOtherThan (kind.Mark mark.Comma) tokens → Fails (IsToken round) stops_anywhere tokens e
-    → Fails (MoreUntil round SpellsParam sofar) stops_anywhere tokens e
-params_last_err = last_err round SpellsParam stops_anywhere param_once (λ _ _ _ _. tt) (λ _ _ _ _ _ d. no_param_closes d) (λ _ _ _. tt) (λ _ _ _. tt) (λ h. cc) some_param
-
-pub params_last : (sofar : List Param) (tokens rest : List Token) (closing : Token) → BeginsOtherThan (kind.Mark mark.Comma) tokens → Found (IsToken round) stops_anywhere tokens rest closing
-    → Found (MoreUntil round SpellsParam sofar) stops_anywhere tokens rest sofar
-params_last = last_ok round SpellsParam stops_anywhere param_once (λ _ _ _ _. tt) (λ _ _ _ _ _ d. no_param_closes d) (λ _ _ _. tt) (λ _ _ _. tt) (λ h. cc) some_param
+pub params_parted : Parting round SpellsParam stops_anywhere
+params_parted = record {
+  unique = λ tokens middle middle' x x' d d' s s'. unique_param d d' refl;
+  same_first = λ _ _ _ _. tt;
+  at_end = λ _ _ _. tt;
+  at_comma = λ _ _ _. tt;
+  no_comma = λ h. cc;
+  no_end = λ h. cc;
+  sample = some_param;
+}
 
 -- ---- one function
 
@@ -179,38 +156,21 @@ function_refused tokens first rest split never =
 
 -- ---- shared declarations up to the brace, functions up to `main`
 
-shared_once : (tokens middle middle' : List Token) (x x' : Shared) → SpellsShared tokens middle x → SpellsShared tokens middle' x' → stops_anywhere middle → stops_anywhere middle'
-    → (middle ≡ middle') × (x ≡ x')
-shared_once tokens middle middle' x x' d d' s s' = unique_shared d d' refl
+pub shared_repeated : Repeating brace SpellsShared stops_anywhere
+shared_repeated = record {
+  unique = λ tokens middle middle' x x' d d' s s'. unique_shared d d' refl;
+  same_first = λ _ _ _ _. tt;
+  before = λ _ _ _ _ _ _. tt;
+  no_end = λ h. cc;
+}
 
-pub shared_done : (sofar : List Shared) (tokens : List Token) (first : Token) (rest : List Token) → IsEnded tokens → tokens ≡ first ∷ rest → first.kind ≡ brace
-    → Found (Until brace SpellsShared sofar) stops_anywhere tokens rest sofar
-shared_done sofar tokens first rest ended split same = until_done brace SpellsShared stops_anywhere shared_once (λ _ _ _ _. tt) (λ _ _ _ _ _ _. tt) sofar tokens first rest ended split same (λ h. cc)
-
-pub shared_err : (sofar : List Shared) (tokens : List Token) (e : ParseError) → BeginsOtherThan brace tokens → Fails SpellsShared stops_anywhere tokens e
-    → Fails (Until brace SpellsShared sofar) stops_anywhere tokens e
-shared_err = until_err brace SpellsShared stops_anywhere shared_once (λ _ _ _ _. tt) (λ _ _ _ _ _ _. tt)
-
-pub shared_more : (sofar : List Shared) (tokens middle : List Token) (x : Shared) → BeginsOtherThan brace tokens → Found SpellsShared stops_anywhere tokens middle x
-    → Passes (Until brace SpellsShared (sofar ++ x ∷ [])) (Until brace SpellsShared sofar) stops_anywhere middle tokens
-shared_more = until_more brace SpellsShared stops_anywhere shared_once (λ _ _ _ _. tt) (λ _ _ _ _ _ _. tt)
-
-function_once : (tokens middle middle' : List Token) (x x' : Function) → SpellsFunction tokens middle x → SpellsFunction tokens middle' x' → stops_anywhere middle → stops_anywhere middle'
-    → (middle ≡ middle') × (x ≡ x')
-function_once tokens middle middle' x x' d d' s s' = unique_function d d' refl
-
-pub functions_done : (sofar : List Function) (tokens : List Token) (first : Token) (rest : List Token) → IsEnded tokens → tokens ≡ first ∷ rest → first.kind ≡ main
-    → Found (Until main SpellsFunction sofar) stops_anywhere tokens rest sofar
-functions_done sofar tokens first rest ended split same = until_done main SpellsFunction stops_anywhere function_once (λ _ _ _ _. tt) (λ _ _ _ _ _ _. tt) sofar tokens first rest ended split same
-    (λ h. cc)
-
-pub functions_err : (sofar : List Function) (tokens : List Token) (e : ParseError) → BeginsOtherThan main tokens → Fails SpellsFunction stops_anywhere tokens e
-    → Fails (Until main SpellsFunction sofar) stops_anywhere tokens e
-functions_err = until_err main SpellsFunction stops_anywhere function_once (λ _ _ _ _. tt) (λ _ _ _ _ _ _. tt)
-
-pub functions_more : (sofar : List Function) (tokens middle : List Token) (x : Function) → BeginsOtherThan main tokens → Found SpellsFunction stops_anywhere tokens middle x
-    → Passes (Until main SpellsFunction (sofar ++ x ∷ [])) (Until main SpellsFunction sofar) stops_anywhere middle tokens
-functions_more = until_more main SpellsFunction stops_anywhere function_once (λ _ _ _ _. tt) (λ _ _ _ _ _ _. tt)
+pub functions_repeated : Repeating main SpellsFunction stops_anywhere
+functions_repeated = record {
+  unique = λ tokens middle middle' x x' d d' s s'. unique_function d d' refl;
+  same_first = λ _ _ _ _. tt;
+  before = λ _ _ _ _ _ _. tt;
+  no_end = λ h. cc;
+}
 
 -- ---- a program but for its end
 

@@ -3,9 +3,9 @@
 ghost use Rattle.std.specs.Prelude.{◌≡◌, ◌<◌, ◌≤◌, IfOk, length};
 ghost use Rattle.csl_tree.specs.declared.token.TokenKind.TheVariants as kind;
 ghost use Rattle.csl_tree.specs.declared.token.Mark.TheVariants as mark;
-ghost use Rattle.csl_grammar.specs.Programs.{SpellsShared, SpellsValue};
+ghost use Rattle.csl_grammar.specs.Programs.{SpellsValue};
 ghost use Rattle.csl_grammar.specs.Stops.{IsEnded};
-ghost use Rattle.expression_parser.specs.Reading.{Answers, ListUntil, behind, stops_anywhere};
+ghost use Rattle.expression_parser.specs.Reading.{Answers, behind, stops_anywhere};
 ghost use Rattle.csl_parser.specs.Chains.{TallyRest, IntRest, AfterName, ArrayRest, AfterSize, ListedRest};
 
 use cal_terms::WordKind;
@@ -13,27 +13,45 @@ use csl_tree::name::Name;
 use csl_tree::program::{ArraySize, Shared, Valued};
 use csl_tree::token::{Keyword, Mark, Token};
 use expression_parser::ParseError;
+use expression_parser::lists::{Element, with_commas};
 use expression_parser::tokens::{
-    comma, copy_of, expect, expect_name, expect_number, expect_word, front, is_mark, is_word,
-    natural, number,
+    copy_of, expect, expect_name, expect_number, expect_word, front, is_mark, is_word, natural,
+    number,
 };
 use sqlite_items::Items;
 use std::alloc::Global;
 
-/// A shared declaration.
-pub fn shared(alloc: Global, tokens: &[Token]) -> Result<(Shared, &[Token]), ParseError>
-    requires { IsEnded tokens.now }
-    ensures answer { Answers SpellsShared stops_anywhere tokens.now (λ x. (x.0, x.1.now)) result }
-    ensures shorter { IfOk result (λ x. length x.1.now < length tokens.now) }
-{
-    let (first, rest) = front(tokens);
-    if is_word(first, Keyword::Tally) {
-        return tally(alloc, rest);
+/// The shared declarations of a program.
+pub struct SharedList;
+
+impl Element for SharedList {
+    ghost use Rattle.csl_tree.specs.declared.token.TokenKind.TheVariants as kind;
+    ghost use Rattle.csl_tree.specs.declared.token.Mark.TheVariants as mark;
+    ghost use Rattle.csl_grammar.specs.Programs.{SpellsShared};
+    ghost use Rattle.expression_parser.specs.Reading.{stops_anywhere};
+
+    type Tree = Shared;
+
+    ghost closing = { kind.Mark mark.CloseBrace };
+
+    ghost spells = { SpellsShared };
+
+    ghost stops = { stops_anywhere };
+
+    fn closes(token: &Token) -> bool {
+        is_mark(token, Mark::CloseBrace)
     }
-    if is_word(first, Keyword::Int) {
-        return ordinary(alloc, rest);
+
+    fn read(alloc: Global, tokens: &[Token]) -> Result<(Shared, &[Token]), ParseError> {
+        let (first, rest) = front(tokens);
+        if is_word(first, Keyword::Tally) {
+            return tally(alloc, rest);
+        }
+        if is_word(first, Keyword::Int) {
+            return ordinary(alloc, rest);
+        }
+        Err(ParseError::Unexpected(first.at))
     }
-    Err(ParseError::Unexpected(first.at))
 }
 
 /// A tally word, behind its first keyword.
@@ -116,7 +134,7 @@ fn listed<'a>(
     ensures shorter { IfOk result (λ x. length x.1.now < length tokens.now) }
 {
     let (_, rest) = expect(Mark::OpenBrace, tokens)?;
-    let (values, rest) = values(alloc, rest)?;
+    let (values, rest) = with_commas::<ValueList>(alloc, rest)?;
     let (_, rest) = expect(Mark::Semicolon, rest)?;
     let declared = Shared {
         name: copy_of(alloc, name)?,
@@ -128,47 +146,42 @@ fn listed<'a>(
     Ok((declared, rest))
 }
 
-/// Values with commas between, and the brace behind them.
-fn values(alloc: Global, tokens: &[Token]) -> Result<(Items<Valued>, &[Token]), ParseError>
-    requires { IsEnded tokens.now }
-    ensures answer { Answers (ListUntil (kind.Mark mark.CloseBrace) SpellsValue) stops_anywhere tokens.now (λ x. (x.0, x.1.now)) result }
-    ensures shorter { IfOk result (λ x. length x.1.now < length tokens.now) }
-{
-    let mut values = Items::new(alloc);
-    let (next, rest) = front(tokens);
-    if is_mark(next, Mark::CloseBrace) {
-        return Ok((values, rest));
-    }
-    let (v, mut rest) = value(tokens)?;
-    values.push(v)?;
-    'more: while let Some(behind) = comma(rest) {
-        let (v, left) = value(behind)?;
-        values.push(v)?;
-        rest = left;
-    }
-    let (_, rest) = expect(Mark::CloseBrace, rest)?;
-    Ok((values, rest))
-}
+/// The initial values of an array.
+struct ValueList;
 
-/// An initial value.
-fn value(tokens: &[Token]) -> Result<(Valued, &[Token]), ParseError>
-    requires { IsEnded tokens.now }
-    ensures answer { Answers SpellsValue stops_anywhere tokens.now (λ x. (x.0, x.1.now)) result }
-    ensures shorter { IfOk result (λ x. length x.1.now < length tokens.now) }
-{
-    let (first, rest) = front(tokens);
-    if is_mark(first, Mark::Minus) {
-        return negative(first, rest);
+impl Element for ValueList {
+    ghost use Rattle.csl_tree.specs.declared.token.TokenKind.TheVariants as kind;
+    ghost use Rattle.csl_tree.specs.declared.token.Mark.TheVariants as mark;
+    ghost use Rattle.csl_grammar.specs.Programs.{SpellsValue};
+    ghost use Rattle.expression_parser.specs.Reading.{stops_anywhere};
+
+    type Tree = Valued;
+
+    ghost closing = { kind.Mark mark.CloseBrace };
+
+    ghost spells = { SpellsValue };
+
+    ghost stops = { stops_anywhere };
+
+    fn closes(token: &Token) -> bool {
+        is_mark(token, Mark::CloseBrace)
     }
-    match number(first) {
-        Some(number) => Ok((
-            Valued {
-                at: first.at,
-                number,
-            },
-            rest,
-        )),
-        None => Err(ParseError::Unexpected(first.at)),
+
+    fn read(_alloc: Global, tokens: &[Token]) -> Result<(Valued, &[Token]), ParseError> {
+        let (first, rest) = front(tokens);
+        if is_mark(first, Mark::Minus) {
+            return negative(first, rest);
+        }
+        match number(first) {
+            Some(number) => Ok((
+                Valued {
+                    at: first.at,
+                    number,
+                },
+                rest,
+            )),
+            None => Err(ParseError::Unexpected(first.at)),
+        }
     }
 }
 

@@ -1,24 +1,22 @@
 //! Functions and programs.
 
-ghost use Rattle.std.specs.Prelude.{◌≡◌, ◌≢◌, ◌<◌, IfOk, MatchOption, [], length};
+ghost use Rattle.std.specs.Prelude.{◌≡◌, ◌≢◌, ◌<◌, IfOk, MatchOption, length};
 ghost use Rattle.csl_tree.specs.declared.token.TokenKind.TheVariants as kind;
-ghost use Rattle.csl_tree.specs.declared.token.Keyword.TheVariants as word;
-ghost use Rattle.csl_tree.specs.declared.token.Mark.TheVariants as mark;
 ghost use Rattle.cal_terms.specs.declared.types.Ty.{Ty};
 ghost use Rattle.cal_terms.specs.declared.types.Gives.{Gives};
-ghost use Rattle.csl_grammar.specs.Programs.{SpellsShared, SpellsParam, SpellsFunction, type_word, result_word};
+ghost use Rattle.csl_grammar.specs.Programs.{type_word, result_word};
 ghost use Rattle.csl_grammar.specs.Stops.{IsEnded};
-ghost use Rattle.expression_parser.specs.Reading.{Answers, ListUntil, Until, stops_anywhere};
+ghost use Rattle.expression_parser.specs.Reading.{Answers, stops_anywhere};
 ghost use Rattle.csl_parser.specs.Program.{ParamRest, FunctionRest, ProgramTokens, Tells};
 
-use crate::decl::shared;
-use csl_tree::program::{Function, Gives, Param, Program, Shared, Ty};
+use crate::decl::SharedList;
+use csl_tree::program::{Function, Gives, Param, Program, Ty};
 use csl_tree::token::{Keyword, Mark, Token, TokenKind};
 use expression_parser::ParseError;
+use expression_parser::lists::{Element, one_by_one, with_commas};
 use expression_parser::tokens::{
-    comma, copy_of, expect, expect_name, expect_word, front, is_end, is_mark, is_word,
+    copy_of, expect, expect_name, expect_word, front, is_end, is_mark, is_word,
 };
-use sqlite_items::Items;
 use statement_parser::stmt::block;
 use std::alloc::Global;
 
@@ -43,8 +41,8 @@ fn unended(alloc: Global, tokens: &[Token]) -> Result<(Program, &[Token]), Parse
 {
     let (_, rest) = expect_word(Keyword::Shared, tokens)?;
     let (_, rest) = expect(Mark::OpenBrace, rest)?;
-    let (shared, rest) = declarations(alloc, rest)?;
-    let (functions, rest) = functions(alloc, rest)?;
+    let (shared, rest) = one_by_one::<SharedList>(alloc, rest)?;
+    let (functions, rest) = one_by_one::<FunctionList>(alloc, rest)?;
     let (main, rest) = block(alloc, rest)?;
     let read = Program {
         shared,
@@ -54,52 +52,33 @@ fn unended(alloc: Global, tokens: &[Token]) -> Result<(Program, &[Token]), Parse
     Ok((read, rest))
 }
 
-/// The shared declarations, and the brace behind them.
-fn declarations(alloc: Global, tokens: &[Token]) -> Result<(Items<Shared>, &[Token]), ParseError>
-    requires { IsEnded tokens.now }
-    ensures { Answers (Until (kind.Mark mark.CloseBrace) SpellsShared []) stops_anywhere tokens.now (λ x. (x.0, x.1.now)) result }
-{
-    let mut declared = Items::new(alloc);
-    let mut rest = tokens;
-    'more: loop {
-        let (next, behind) = front(rest);
-        if is_mark(next, Mark::CloseBrace) {
-            return Ok((declared, behind));
-        }
-        let (one, left) = shared(alloc, rest)?;
-        declared.push(one)?;
-        rest = left;
-    }
-}
+/// The functions of a program, up to its `main`.
+struct FunctionList;
 
-/// The functions, and the `main` behind them.
-fn functions(alloc: Global, tokens: &[Token]) -> Result<(Items<Function>, &[Token]), ParseError>
-    requires { IsEnded tokens.now }
-    ensures { Answers (Until (kind.Word word.Main) SpellsFunction []) stops_anywhere tokens.now (λ x. (x.0, x.1.now)) result }
-{
-    let mut found = Items::new(alloc);
-    let mut rest = tokens;
-    'more: loop {
-        let (next, behind) = front(rest);
-        if is_word(next, Keyword::Main) {
-            return Ok((found, behind));
-        }
-        let (one, left) = function(alloc, rest)?;
-        found.push(one)?;
-        rest = left;
-    }
-}
+impl Element for FunctionList {
+    ghost use Rattle.csl_tree.specs.declared.token.TokenKind.TheVariants as kind;
+    ghost use Rattle.csl_tree.specs.declared.token.Keyword.TheVariants as word;
+    ghost use Rattle.csl_grammar.specs.Programs.{SpellsFunction};
+    ghost use Rattle.expression_parser.specs.Reading.{stops_anywhere};
 
-/// A function.
-fn function(alloc: Global, tokens: &[Token]) -> Result<(Function, &[Token]), ParseError>
-    requires { IsEnded tokens.now }
-    ensures answer { Answers SpellsFunction stops_anywhere tokens.now (λ x. (x.0, x.1.now)) result }
-    ensures shorter { IfOk result (λ x. length x.1.now < length tokens.now) }
-{
-    let (first, rest) = front(tokens);
-    match result_type(first) {
-        Some(gives) => signature(alloc, gives, rest),
-        None => Err(ParseError::Unexpected(first.at)),
+    type Tree = Function;
+
+    ghost closing = { kind.Word word.Main };
+
+    ghost spells = { SpellsFunction };
+
+    ghost stops = { stops_anywhere };
+
+    fn closes(token: &Token) -> bool {
+        is_word(token, Keyword::Main)
+    }
+
+    fn read(alloc: Global, tokens: &[Token]) -> Result<(Function, &[Token]), ParseError> {
+        let (first, rest) = front(tokens);
+        match result_type(first) {
+            Some(gives) => signature(alloc, gives, rest),
+            None => Err(ParseError::Unexpected(first.at)),
+        }
     }
 }
 
@@ -115,7 +94,7 @@ fn signature(
 {
     let (name, rest) = expect_name(tokens)?;
     let (_, rest) = expect(Mark::OpenParen, rest)?;
-    let (params, rest) = parameters(alloc, rest)?;
+    let (params, rest) = with_commas::<ParameterList>(alloc, rest)?;
     let (body, rest) = block(alloc, rest)?;
     let declared = Function {
         name: copy_of(alloc, name)?,
@@ -126,38 +105,33 @@ fn signature(
     Ok((declared, rest))
 }
 
-/// Parameters with commas between, and the parenthesis behind them.
-fn parameters(alloc: Global, tokens: &[Token]) -> Result<(Items<Param>, &[Token]), ParseError>
-    requires { IsEnded tokens.now }
-    ensures answer { Answers (ListUntil (kind.Mark mark.CloseParen) SpellsParam) stops_anywhere tokens.now (λ x. (x.0, x.1.now)) result }
-    ensures shorter { IfOk result (λ x. length x.1.now < length tokens.now) }
-{
-    let mut params = Items::new(alloc);
-    let (next, rest) = front(tokens);
-    if is_mark(next, Mark::CloseParen) {
-        return Ok((params, rest));
-    }
-    let (p, mut rest) = parameter(alloc, tokens)?;
-    params.push(p)?;
-    'more: while let Some(behind) = comma(rest) {
-        let (p, left) = parameter(alloc, behind)?;
-        params.push(p)?;
-        rest = left;
-    }
-    let (_, rest) = expect(Mark::CloseParen, rest)?;
-    Ok((params, rest))
-}
+/// The parameters of a function.
+struct ParameterList;
 
-/// A parameter.
-fn parameter(alloc: Global, tokens: &[Token]) -> Result<(Param, &[Token]), ParseError>
-    requires { IsEnded tokens.now }
-    ensures answer { Answers SpellsParam stops_anywhere tokens.now (λ x. (x.0, x.1.now)) result }
-    ensures shorter { IfOk result (λ x. length x.1.now < length tokens.now) }
-{
-    let (first, rest) = front(tokens);
-    match type_of(first) {
-        Some(ty) => named(alloc, ty, rest),
-        None => Err(ParseError::Unexpected(first.at)),
+impl Element for ParameterList {
+    ghost use Rattle.csl_tree.specs.declared.token.TokenKind.TheVariants as kind;
+    ghost use Rattle.csl_tree.specs.declared.token.Mark.TheVariants as mark;
+    ghost use Rattle.csl_grammar.specs.Programs.{SpellsParam};
+    ghost use Rattle.expression_parser.specs.Reading.{stops_anywhere};
+
+    type Tree = Param;
+
+    ghost closing = { kind.Mark mark.CloseParen };
+
+    ghost spells = { SpellsParam };
+
+    ghost stops = { stops_anywhere };
+
+    fn closes(token: &Token) -> bool {
+        is_mark(token, Mark::CloseParen)
+    }
+
+    fn read(alloc: Global, tokens: &[Token]) -> Result<(Param, &[Token]), ParseError> {
+        let (first, rest) = front(tokens);
+        match type_of(first) {
+            Some(ty) => named(alloc, ty, rest),
+            None => Err(ParseError::Unexpected(first.at)),
+        }
     }
 }
 

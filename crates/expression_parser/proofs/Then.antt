@@ -11,16 +11,10 @@ use Rattle.csl_grammar.specs.Stops.{IsEnded, BeginsOtherThan}
 use Rattle.csl_grammar.specs.Programs.{Each, stop, again, MoreOf, no_more, more, ListOf, nothing, something}
 use Rattle.csl_tree.specs.declared.program.ArraySize.{ArraySize}
 use Rattle.expression_parser.specs.Reading.{Found, Refused, Fails, Answers, IsToken, Tok, tok, NameTok, name_tok, SizeTok, size_tok, Ret, ret, Then, seq, Either, this, that, Until, MoreUntil}
-use Rattle.expression_parser.specs.Reading.{ListUntil, stops_anywhere, number_of}
+use Rattle.expression_parser.specs.Reading.{ListUntil, Completes, Parting, Repeating, stops_anywhere, number_of}
 use Rattle.csl_grammar.proofs.Unique.{begins_clash}
 use Rattle.expression_parser.proofs.Sequence.{Cut, Sequence, Passes, after_first, second_error, after_second, passes_second, passes_through, passes_same, passed, passed_error}
 use Rattle.expression_parser.proofs.Single.{some_token, ended_behind, token_found}
-
--- some tokens are spelled, whatever follows them
-pub record Completes {T : Type 0} (spells : List Token → List Token → T → Type 0) : Type 0 where
-  pub ending : List Token
-  pub finished : T
-  pub some : (others : List Token) → spells (ending ++ others) others finished
 
 -- what makes `Then` readable: a first part has one end and one tree, what follows it stops it, and from behind it some tree can be finished
 pub record Follows {A T : Type 0} (first : List Token → List Token → A → Type 0) (stops : List Token → Type 0) (second : A → List Token → List Token → T → Type 0) (ends : List Token → Type 0) : Type 0
@@ -308,16 +302,13 @@ module _ {T : Type 0} (k : TokenKind) (spells : List Token → List Token → T 
   pub completes_list : Completes (ListUntil k spells)
   completes_list = record { ending = some_token k ∷ []; finished = []; some = λ others. (some_token k, nothing, refl) }
 
--- a list up to a token with which nothing in it begins
-module _ {T : Type 0} (k : TokenKind) (spells : List Token → List Token → T → Type 0) (stops : List Token → Type 0)
-    (unique : (tokens middle middle' : List Token) (x x' : T) → spells tokens middle x → spells tokens middle' x' → stops middle → stops middle' → (middle ≡ middle') × (x ≡ x'))
-    (same_first : (token : Token) (xs ys : List Token) → stops (token ∷ xs) → stops (token ∷ ys))
-    (before : (ts behind : List Token) (xs : List T) (last : Token) → Each spells ts (last ∷ behind) xs → last.kind ≡ k → stops ts) where
+-- a list up to a token
+module _ {T : Type 0} {k : TokenKind} {spells : List Token → List Token → T → Type 0} {stops : List Token → Type 0} (elements : Repeating k spells stops) where
   one_follows : (sofar : List T) → Follows spells stops (λ x. Until k spells (sofar ++ x ∷ [])) stops_anywhere
   one_follows sofar = record {
-    unique = unique;
-    same_first = same_first;
-    ahead = λ middle rest x tree d s. before middle rest d.1 d.0 d.2 d.3;
+    unique = elements.unique;
+    same_first = elements.same_first;
+    ahead = λ middle rest x tree d s. elements.before middle rest d.1 d.0 d.2 d.3;
     completes = λ x. completes_until k spells stops (sofar ++ x ∷ []);
   }
 
@@ -337,14 +328,14 @@ module _ {T : Type 0} (k : TokenKind) (spells : List Token → List Token → T 
       (until_there sofar) (λ ts r xs h d s. each_back sofar d.2 refl d.3 d.4 h)
 
   -- where the closing token comes next, the list has ended
-  pub until_done : (sofar : List T) (tokens : List Token) (first : Token) (rest : List Token) → IsEnded tokens → tokens ≡ first ∷ rest → first.kind ≡ k → (k ≡ kind.End → ⊥)
+  pub until_done : (sofar : List T) (tokens : List Token) (first : Token) (rest : List Token) → IsEnded tokens → tokens ≡ first ∷ rest → first.kind ≡ k
       → Found (Until k spells sofar) stops_anywhere tokens rest sofar
-  until_done sofar tokens first rest ended split same other = record {
+  until_done sofar tokens first rest ended split same = record {
     read = first ∷ [];
     split = split;
     spelled = λ others. (first, [], stop, same, sym (append-nil sofar));
     stopped = tt;
-    ended = ended_behind tokens first rest ended split (λ h. other (sym same ∙ h));
+    ended = ended_behind tokens first rest ended split (λ h. elements.no_end (sym same ∙ h));
   }
 
   -- else an element comes
@@ -355,31 +346,24 @@ module _ {T : Type 0} (k : TokenKind) (spells : List Token → List Token → T 
       → Passes (Until k spells (sofar ++ x ∷ [])) (Until k spells sofar) stops_anywhere middle tokens
   until_more sofar tokens middle x other g = passes_through (then_passes (one_follows sofar) tokens middle x g) (narrow_until sofar tokens other)
 
--- a list with commas, up to a token with which nothing in it begins
-module _ {T : Type 0} (k : TokenKind) (spells : List Token → List Token → T → Type 0) (stops : List Token → Type 0)
-    (unique : (tokens middle middle' : List Token) (x x' : T) → spells tokens middle x → spells tokens middle' x' → stops middle → stops middle' → (middle ≡ middle') × (x ≡ x'))
-    (same_first : (token : Token) (xs ys : List Token) → stops (token ∷ xs) → stops (token ∷ ys))
-    (never : (ts rest behind : List Token) (x : T) (first : Token) → spells ts rest x → ts ≡ first ∷ behind → first.kind ≡ k → ⊥)
-    (at_end : (token : Token) (ts : List Token) → token.kind ≡ k → stops (token ∷ ts))
-    (at_comma : (token : Token) (ts : List Token) → token.kind ≡ kind.Mark mark.Comma → stops (token ∷ ts))
-    (other : k ≡ kind.Mark mark.Comma → ⊥)
-    (sample : Completes spells) where
+-- a list with commas, up to a token
+module _ {T : Type 0} {k : TokenKind} {spells : List Token → List Token → T → Type 0} {stops : List Token → Type 0} (elements : Parting k spells stops) where
   before_more : {ts end r : List Token} {xs : List T} {last : Token} → MoreOf spells ts end xs → end ≡ last ∷ r → last.kind ≡ k → stops ts
-  before_more {r = r} {last = last} no_more e l = subst stops (sym e) (at_end last r l)
-  before_more (more {comma = comma} {tokens = tokens} c d m) e l = at_comma comma tokens c
+  before_more {r = r} {last = last} no_more e l = subst stops (sym e) (elements.at_end last r l)
+  before_more (more {comma = comma} {tokens = tokens} c d m) e l = elements.at_comma comma tokens c
 
   element_follows : (sofar : List T) → Follows spells stops (λ x. MoreUntil k spells (sofar ++ x ∷ [])) stops_anywhere
   element_follows sofar = record {
-    unique = unique;
-    same_first = same_first;
+    unique = elements.unique;
+    same_first = elements.same_first;
     ahead = λ middle rest x tree d s. before_more d.2 refl d.3;
     completes = λ x. completes_more k spells stops (sofar ++ x ∷ []);
   }
 
   pub first_follows : Follows spells stops (λ x. MoreUntil k spells (x ∷ [])) stops_anywhere
   first_follows = record {
-    unique = unique;
-    same_first = same_first;
+    unique = elements.unique;
+    same_first = elements.same_first;
     ahead = λ middle rest x tree d s. before_more d.2 refl d.3;
     completes = λ x. completes_more k spells stops (x ∷ []);
   }
@@ -403,14 +387,14 @@ module _ {T : Type 0} (k : TokenKind) (spells : List Token → List Token → T 
       narrowed_by (BeginsOtherThan k) (λ token xs ys h. h) (Then spells (λ x. MoreUntil k spells (x ∷ []))) (ListUntil k spells) stops_anywhere tokens other
       list_there (λ ts r xs h d s. list_back d.1 refl d.2 h)
 
-  pub list_nothing : (tokens : List Token) (first : Token) (rest : List Token) → IsEnded tokens → tokens ≡ first ∷ rest → first.kind ≡ k → (k ≡ kind.End → ⊥)
+  pub list_nothing : (tokens : List Token) (first : Token) (rest : List Token) → IsEnded tokens → tokens ≡ first ∷ rest → first.kind ≡ k
       → Found (ListUntil k spells) stops_anywhere tokens rest []
-  list_nothing tokens first rest ended split same other = record {
+  list_nothing tokens first rest ended split same = record {
     read = first ∷ [];
     split = split;
     spelled = λ others. (first, nothing, same);
     stopped = tt;
-    ended = ended_behind tokens first rest ended split (λ h. other (sym same ∙ h));
+    ended = ended_behind tokens first rest ended split (λ h. elements.no_end (sym same ∙ h));
   }
 
   pub list_err : (tokens : List Token) (e : ParseError) → BeginsOtherThan k tokens → Fails spells stops tokens e → Fails (ListUntil k spells) stops_anywhere tokens e
@@ -434,13 +418,13 @@ module _ {T : Type 0} (k : TokenKind) (spells : List Token → List Token → T 
       seq (tok c') (seq one (closing, zs, subst to e rest, l, is ∙ sym (append_assoc sofar (x ∷ []) zs)))
 
   comma_follows : (sofar : List T) → Follows (Tok (kind.Mark mark.Comma)) stops_anywhere (λ comma. Then spells (λ x. MoreUntil k spells (sofar ++ x ∷ []))) stops_anywhere
-  comma_follows sofar = tok_follows (kind.Mark mark.Comma) stops_anywhere (λ comma. completes_then sample (λ x. completes_more k spells stops (sofar ++ x ∷ [])))
+  comma_follows sofar = tok_follows (kind.Mark mark.Comma) stops_anywhere (λ comma. completes_then elements.sample (λ x. completes_more k spells stops (sofar ++ x ∷ [])))
 
   narrow_comma : (sofar : List T) (tokens : List Token) (comma : Token) (rest : List Token) → tokens ≡ comma ∷ rest → comma.kind ≡ kind.Mark mark.Comma
       → Passes (Then (Tok (kind.Mark mark.Comma)) (λ comma. Then spells (λ x. MoreUntil k spells (sofar ++ x ∷ [])))) (MoreUntil k spells sofar) stops_anywhere tokens tokens
   narrow_comma sofar tokens comma rest split c =
       narrowed (Then (Tok (kind.Mark mark.Comma)) (λ comma. Then spells (λ x. MoreUntil k spells (sofar ++ x ∷ [])))) (MoreUntil k spells sofar) stops_anywhere tokens comma rest split
-      (comma_there sofar) (λ ts r behind tree e d s. comma_back sofar d.2 refl d.3 d.4 e c other)
+      (comma_there sofar) (λ ts r behind tree e d s. comma_back sofar d.2 refl d.3 d.4 e c elements.no_comma)
 
   pub more_err : (sofar : List T) (tokens : List Token) (comma : Token) (rest : List Token) (e : ParseError) → IsEnded tokens → tokens ≡ comma ∷ rest → comma.kind ≡ kind.Mark mark.Comma
       → Fails spells stops rest e → Fails (MoreUntil k spells sofar) stops_anywhere tokens e

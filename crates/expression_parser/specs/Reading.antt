@@ -176,3 +176,30 @@ MoreUntil {T} k spells sofar tokens rest xs = (closing : Token) × (ys : List T)
 -- a list with commas, and the token of that kind behind it
 abbrev pub ListUntil : {T : Type 0} → TokenKind → (List Token → List Token → T → Type 0) → List Token → List Token → List T → Type 0
 ListUntil k spells tokens rest xs = (closing : Token) × ListOf spells tokens (closing ∷ rest) xs × (closing.kind ≡ k)
+
+-- some tokens are spelled, whatever follows them
+pub record Completes {T : Type 0} (spells : List Token → List Token → T → Type 0) : Type 0 where
+  pub ending : List Token
+  pub finished : T
+  pub some : (others : List Token) → spells (ending ++ others) others finished
+
+-- Elements can be read one behind another up to a token of that kind: each has one end and one tree, whether it stops shows at the
+-- next token, and it stops before the next element and before the closing token.
+pub record Repeating {T : Type 0} (k : TokenKind) (spells : List Token → List Token → T → Type 0) (stops : List Token → Type 0) : Type 0 where
+  pub unique : (tokens middle middle' : List Token) (x x' : T) → spells tokens middle x → spells tokens middle' x' → stops middle
+      → stops middle' → (middle ≡ middle') × (x ≡ x')
+  pub same_first : (token : Token) (xs ys : List Token) → stops (token ∷ xs) → stops (token ∷ ys)
+  pub before : (tokens rest : List Token) (xs : List T) (last : Token) → Each spells tokens (last ∷ rest) xs → last.kind ≡ k → stops tokens
+  pub no_end : k ≢ kind.End
+
+-- Elements can be read with commas between up to a token of that kind: each has one end and one tree, whether it stops shows at the
+-- next token, it stops before a comma and before the closing token, which is neither a comma nor the end, and some element there is.
+pub record Parting {T : Type 0} (k : TokenKind) (spells : List Token → List Token → T → Type 0) (stops : List Token → Type 0) : Type 0 where
+  pub unique : (tokens middle middle' : List Token) (x x' : T) → spells tokens middle x → spells tokens middle' x' → stops middle
+      → stops middle' → (middle ≡ middle') × (x ≡ x')
+  pub same_first : (token : Token) (xs ys : List Token) → stops (token ∷ xs) → stops (token ∷ ys)
+  pub at_end : (token : Token) (tokens : List Token) → token.kind ≡ k → stops (token ∷ tokens)
+  pub at_comma : (token : Token) (tokens : List Token) → token.kind ≡ kind.Mark mark.Comma → stops (token ∷ tokens)
+  pub no_comma : k ≢ kind.Mark mark.Comma
+  pub no_end : k ≢ kind.End
+  pub sample : Completes spells

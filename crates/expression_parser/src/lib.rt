@@ -1,7 +1,8 @@
-//! Tokens as they are read one by one, and expressions, by recursive descent.
+//! Tokens as they are read one by one, lists, and expressions, by recursive descent.
 #![tactic(auto)]
 
 pub mod expr;
+pub mod lists;
 pub mod tokens;
 
 use cal_terms::NoMemory;

@@ -22,13 +22,13 @@ use Rattle.csl_grammar.proofs.Unique.{unique, begins_clash}
 use Rattle.csl_grammar.proofs.UniqueParts.{unique_change, stops_paren, stops_semicolon}
 use Rattle.csl_grammar.proofs.UniqueProgram.{form_is, form_at, by_word, by_mark, unique_stmt, unique_start, unique_block, unique_stmts, unique_arm, unique_else, unique_routine, unique_routines}
 use Rattle.csl_grammar.proofs.UniqueProgram.{stmts_no_else}
-use Rattle.expression_parser.specs.Reading.{Found, Refused, Fails, Answers, Tok, tok, NameTok, name_tok, Ret, ret, Then, seq, Until, behind, stops_anywhere}
+use Rattle.expression_parser.specs.Reading.{Found, Refused, Fails, Answers, Tok, tok, NameTok, name_tok, Ret, ret, Then, seq, Until, Completes, Repeating, behind, stops_anywhere}
 use Rattle.statement_parser.specs.Statements.{NoElse, EndsAs, BlockRest, WhileRest, ForRest, IfRest, ElseFrom, RoutinesRest, ParRest, TwoNames, both}
 use Rattle.expression_parser.proofs.Sequence.{Passes, passes_same, passes_behind, passes_through, passed, passed_error}
 use Rattle.expression_parser.proofs.Rules.{stops_same}
 use Rattle.expression_parser.proofs.Single.{some_token, ended_behind, token_found}
-use Rattle.expression_parser.proofs.Then.{Completes, Follows, completes_ret, completes_tok, completes_name, completes_then, completes_until, tok_follows, then_first, then_second, then_found}
-use Rattle.expression_parser.proofs.Then.{then_answers, then_passes, tok_found, tok_err, ret_found, narrowed, narrowed_by, begins_other, no_name, until_done, until_err, until_more}
+use Rattle.expression_parser.proofs.Then.{Follows, completes_ret, completes_tok, completes_name, completes_then, completes_until, tok_follows, then_first, then_second, then_found}
+use Rattle.expression_parser.proofs.Then.{then_answers, then_passes, tok_found, tok_err, ret_found, narrowed, narrowed_by, begins_other, no_name}
 use Rattle.statement_parser.proofs.StatementParts.{some_expr, some_change, ends_as, expr_before, semicolon_behind}
 
 abbrev brace : TokenKind
@@ -54,26 +54,13 @@ pub each_stmts : {ts r : List Token} {ss : List Stmt} → Each SpellsStmt ts r s
 each_stmts stop = none
 each_stmts (again d m) = one_more d (each_stmts m)
 
-stmt_once : (tokens middle middle' : List Token) (x x' : Stmt) → SpellsStmt tokens middle x → SpellsStmt tokens middle' x' → NoElse middle → NoElse middle' → (middle ≡ middle') × (x ≡ x')
-stmt_once tokens middle middle' x x' d d' s s' = unique_stmt d d' refl s s'
-
-no_else_same : (token : Token) (xs ys : List Token) → NoElse (token ∷ xs) → NoElse (token ∷ ys)
-no_else_same token xs ys h = h
-
-before_stmts : (ts behind_it : List Token) (xs : List Stmt) (last : Token) → Each SpellsStmt ts (last ∷ behind_it) xs → last.kind ≡ brace → NoElse ts
-before_stmts ts behind_it xs last d k = stmts_no_else (each_stmts d) refl k
-
-pub block_done : (sofar : List Stmt) (tokens : List Token) (first : Token) (rest : List Token) → IsEnded tokens → tokens ≡ first ∷ rest → first.kind ≡ brace
-    → Found (Until brace SpellsStmt sofar) stops_anywhere tokens rest sofar
-block_done sofar tokens first rest ended split same = until_done brace SpellsStmt NoElse stmt_once no_else_same before_stmts sofar tokens first rest ended split same (λ h. cc)
-
-pub block_err : (sofar : List Stmt) (tokens : List Token) (e : ParseError) → BeginsOtherThan brace tokens → Fails SpellsStmt NoElse tokens e
-    → Fails (Until brace SpellsStmt sofar) stops_anywhere tokens e
-block_err = until_err brace SpellsStmt NoElse stmt_once no_else_same before_stmts
-
-pub block_more : (sofar : List Stmt) (tokens middle : List Token) (x : Stmt) → BeginsOtherThan brace tokens → Found SpellsStmt NoElse tokens middle x
-    → Passes (Until brace SpellsStmt (sofar ++ x ∷ [])) (Until brace SpellsStmt sofar) stops_anywhere middle tokens
-block_more = until_more brace SpellsStmt NoElse stmt_once no_else_same before_stmts
+pub stmts_repeated : Repeating brace SpellsStmt NoElse
+stmts_repeated = record {
+  unique = λ tokens middle middle' x x' d d' s s'. unique_stmt d d' refl s s';
+  same_first = λ token xs ys h. h;
+  before = λ ts rest xs last d k. stmts_no_else (each_stmts d) refl k;
+  no_end = λ h. cc;
+}
 
 some_rest : Completes BlockRest
 some_rest = completes_until brace SpellsStmt NoElse []
@@ -455,17 +442,13 @@ routine_once : (tokens middle middle' : List Token) (x x' : RoutineBlock) → Sp
     → (middle ≡ middle') × (x ≡ x')
 routine_once tokens middle middle' x x' d d' s s' = unique_routine d d' refl
 
-pub step_done : (sofar : List RoutineBlock) (tokens : List Token) (first : Token) (rest : List Token) → IsEnded tokens → tokens ≡ first ∷ rest → first.kind ≡ parend
-    → Found (Until parend SpellsRoutine sofar) stops_anywhere tokens rest sofar
-step_done sofar tokens first rest ended split same = until_done parend SpellsRoutine stops_anywhere routine_once (λ _ _ _ _. tt) (λ _ _ _ _ _ _. tt) sofar tokens first rest ended split same (λ h. cc)
-
-pub step_err : (sofar : List RoutineBlock) (tokens : List Token) (e : ParseError) → BeginsOtherThan parend tokens → Fails SpellsRoutine stops_anywhere tokens e
-    → Fails (Until parend SpellsRoutine sofar) stops_anywhere tokens e
-step_err = until_err parend SpellsRoutine stops_anywhere routine_once (λ _ _ _ _. tt) (λ _ _ _ _ _ _. tt)
-
-pub step_more : (sofar : List RoutineBlock) (tokens middle : List Token) (x : RoutineBlock) → BeginsOtherThan parend tokens → Found SpellsRoutine stops_anywhere tokens middle x
-    → Passes (Until parend SpellsRoutine (sofar ++ x ∷ [])) (Until parend SpellsRoutine sofar) stops_anywhere middle tokens
-step_more = until_more parend SpellsRoutine stops_anywhere routine_once (λ _ _ _ _. tt) (λ _ _ _ _ _ _. tt)
+pub routines_repeated : Repeating parend SpellsRoutine stops_anywhere
+routines_repeated = record {
+  unique = routine_once;
+  same_first = λ _ _ _ _. tt;
+  before = λ _ _ _ _ _ _. tt;
+  no_end = λ h. cc;
+}
 
 pub first_routine : Follows SpellsRoutine stops_anywhere (λ one. Until parend SpellsRoutine (one ∷ [])) stops_anywhere
 first_routine = record {

@@ -22,23 +22,22 @@ use Rattle.csl_tree.specs.declared.program.BinaryOp.TheVariants as binary_op
 use Rattle.expression_parser.specs.declared.ParseError.{ParseError}
 use Rattle.csl_grammar.specs.Expressions.{SpellsExpr, chain, number, ends, whole, level_of, mark_of, expr, place, call, SpellsArguments, nothing as no_arguments}
 use Rattle.csl_grammar.specs.Stops.{IsEnded, BeginsOtherThan, Stops, operator_of}
-use Rattle.csl_grammar.specs.Programs.{IsMark, IsWord, type_word, stmt, SpellsPlace, bare, indexed, SpellsCall, called, SpellsDecl, declare, SpellsChange, set, add_to, SpellsItem, text, value, ListOf}
-use Rattle.csl_grammar.specs.Programs.{nothing, SpellsStmt, declared, changed, calls, block, if_else, while_loop, for_loop, break_out, goes_on, returns, returns_value, asserts, prints, parallel}
+use Rattle.csl_grammar.specs.Programs.{IsMark, IsWord, type_word, stmt, SpellsPlace, bare, indexed, SpellsCall, called, SpellsDecl, declare, SpellsChange, set, add_to, SpellsItem, text, value}
+use Rattle.csl_grammar.specs.Programs.{SpellsStmt, declared, changed, calls, block, if_else, while_loop, for_loop, break_out, goes_on, returns, returns_value, asserts, prints, parallel}
 use Rattle.csl_grammar.specs.Programs.{SpellsStart, declares, changes}
 use Rattle.csl_grammar.proofs.Unique.{unique, unique_arguments, stops_at, operator_of-mark_of}
-use Rattle.csl_grammar.proofs.UniqueParts.{type_word-same, no_text, unique_item, unique_items, unique_decl, unique_change, no_item, no_expression, semicolon_begins_none, stops_semicolon, stops_paren}
+use Rattle.csl_grammar.proofs.UniqueParts.{type_word-same, no_text, unique_item, unique_items, unique_decl, unique_change, no_expression, semicolon_begins_none, stops_semicolon, stops_paren}
 use Rattle.csl_grammar.proofs.UniqueParts.{stops_bracket, stops_comma}
 use Rattle.csl_grammar.proofs.UniqueProgram.{form_is, form_at, unique_start, by_word, by_name, type_form, form_of_change, form_of_call}
-use Rattle.expression_parser.specs.Reading.{Found, Refused, Fails, Answers, IsToken, Tok, tok, NameTok, name_tok, Ret, ret, Then, seq, Either, this, that, ListUntil, MoreUntil, SpellsClosed, at_mark}
-use Rattle.expression_parser.specs.Reading.{behind, stops_anywhere}
+use Rattle.expression_parser.specs.Reading.{Found, Refused, Fails, Answers, IsToken, Tok, tok, NameTok, name_tok, Ret, ret, Then, seq, Either, this, that, ListUntil, SpellsClosed, at_mark}
+use Rattle.expression_parser.specs.Reading.{Completes, Parting, behind, stops_anywhere}
 use Rattle.statement_parser.specs.Statements.{NoElse, EndsAs, DeclRest, Changing, IndexedRest, ChangeRest, CallRest, ReturnRest, AssertRest, PrintRest, SecondName, TwoNames, both}
 use Rattle.expression_parser.proofs.Sequence.{Passes, passes_same, passes_behind, passes_through, passed, passed_error, refused_here}
 use Rattle.expression_parser.proofs.Rules.{stops_same, unique_closed}
 use Rattle.expression_parser.proofs.Steps.{operator_kind}
 use Rattle.expression_parser.proofs.Single.{some_token, ended_behind, token_found}
-use Rattle.expression_parser.proofs.Then.{Completes, Follows, completes_ret, completes_tok, completes_name, completes_then, completes_this, completes_list, tok_follows, name_follows, then_first}
-use Rattle.expression_parser.proofs.Then.{then_second, then_found, then_passes, tok_found, tok_err, ret_found, narrowed, narrowed_by, passes_this, passes_that, begins_other, no_name, list_nothing}
-use Rattle.expression_parser.proofs.Then.{list_err, list_begun, more_err, more_step, last_err, last_ok}
+use Rattle.expression_parser.proofs.Then.{Follows, completes_ret, completes_tok, completes_name, completes_then, completes_this, completes_list, tok_follows, name_follows, then_first}
+use Rattle.expression_parser.proofs.Then.{then_second, then_found, then_passes, tok_found, tok_err, ret_found, narrowed, narrowed_by, passes_this, passes_that, begins_other, no_name}
 
 -- ---- what completes
 
@@ -371,43 +370,19 @@ opening_items f = tok_follows (kind.Mark mark.OpenParen) NoElse (λ opening. com
 
 -- ---- items of a print
 
-item_once : (tokens middle middle' : List Token) (x x' : Item) → SpellsItem tokens middle x → SpellsItem tokens middle' x' → Stops whole middle → Stops whole middle' → (middle ≡ middle') × (x ≡ x')
-item_once tokens middle middle' x x' d d' s s' = unique_item d d' refl s s'
-
 some_item : Completes SpellsItem
 some_item = record { ending = some_expr.ending; finished = item.Value some_expr.finished; some = λ others. value (some_expr.some others) }
 
-abbrev round : TokenKind
-round = kind.Mark mark.CloseParen
-
-pub items_nothing : (tokens : List Token) (first : Token) (rest : List Token) → IsEnded tokens → tokens ≡ first ∷ rest → first.kind ≡ round
-    → Found (ListUntil round SpellsItem) stops_anywhere tokens rest []
-items_nothing tokens first rest ended split same =
-    list_nothing round SpellsItem (Stops whole) item_once (stops_same whole) (λ _ _ _ _ _ d. no_item d) (λ _ _ h. stops_paren h) (λ _ _ h. stops_comma h) (λ h. cc) some_item tokens first rest ended
-    split same (λ h. cc)
-
-pub items_err : (tokens : List Token) (e : ParseError) → BeginsOtherThan round tokens → Fails SpellsItem (Stops whole) tokens e → Fails (ListUntil round SpellsItem) stops_anywhere tokens e
-items_err = list_err round SpellsItem (Stops whole) item_once (stops_same whole) (λ _ _ _ _ _ d. no_item d) (λ _ _ h. stops_paren h) (λ _ _ h. stops_comma h) (λ h. cc) some_item
-
-pub items_begun : (tokens middle : List Token) (x : Item) → BeginsOtherThan round tokens → Found SpellsItem (Stops whole) tokens middle x
-    → Passes (MoreUntil round SpellsItem (x ∷ [])) (ListUntil round SpellsItem) stops_anywhere middle tokens
-items_begun = list_begun round SpellsItem (Stops whole) item_once (stops_same whole) (λ _ _ _ _ _ d. no_item d) (λ _ _ h. stops_paren h) (λ _ _ h. stops_comma h) (λ h. cc) some_item
-
-pub items_more_err : (sofar : List Item) (tokens : List Token) (comma : Token) (rest : List Token) (e : ParseError) → IsEnded tokens → tokens ≡ comma ∷ rest → comma.kind ≡ kind.Mark mark.Comma
-    → Fails SpellsItem (Stops whole) rest e → Fails (MoreUntil round SpellsItem sofar) stops_anywhere tokens e
-items_more_err = more_err round SpellsItem (Stops whole) item_once (stops_same whole) (λ _ _ _ _ _ d. no_item d) (λ _ _ h. stops_paren h) (λ _ _ h. stops_comma h) (λ h. cc) some_item
-
-pub items_more : (sofar : List Item) (tokens : List Token) (comma : Token) (rest middle : List Token) (x : Item) → IsEnded tokens → tokens ≡ comma ∷ rest → comma.kind ≡ kind.Mark mark.Comma
-    → Found SpellsItem (Stops whole) rest middle x → Passes (MoreUntil round SpellsItem (sofar ++ x ∷ [])) (MoreUntil round SpellsItem sofar) stops_anywhere middle tokens
-items_more = more_step round SpellsItem (Stops whole) item_once (stops_same whole) (λ _ _ _ _ _ d. no_item d) (λ _ _ h. stops_paren h) (λ _ _ h. stops_comma h) (λ h. cc) some_item
-
-pub items_last_err : (sofar : List Item) (tokens : List Token) (e : ParseError) → BeginsOtherThan (kind.Mark mark.Comma) tokens → Fails (IsToken round) stops_anywhere tokens e
-    → Fails (MoreUntil round SpellsItem sofar) stops_anywhere tokens e
-items_last_err = last_err round SpellsItem (Stops whole) item_once (stops_same whole) (λ _ _ _ _ _ d. no_item d) (λ _ _ h. stops_paren h) (λ _ _ h. stops_comma h) (λ h. cc) some_item
-
-pub items_last : (sofar : List Item) (tokens rest : List Token) (closing : Token) → BeginsOtherThan (kind.Mark mark.Comma) tokens → Found (IsToken round) stops_anywhere tokens rest closing
-    → Found (MoreUntil round SpellsItem sofar) stops_anywhere tokens rest sofar
-items_last = last_ok round SpellsItem (Stops whole) item_once (stops_same whole) (λ _ _ _ _ _ d. no_item d) (λ _ _ h. stops_paren h) (λ _ _ h. stops_comma h) (λ h. cc) some_item
+pub items_parted : Parting (kind.Mark mark.CloseParen) SpellsItem (Stops whole)
+items_parted = record {
+  unique = λ tokens middle middle' x x' d d' s s'. unique_item d d' refl s s';
+  same_first = stops_same whole;
+  at_end = λ token ts h. stops_paren h;
+  at_comma = λ token ts h. stops_comma h;
+  no_comma = λ h. cc;
+  no_end = λ h. cc;
+  sample = some_item;
+}
 
 -- ---- one item
 

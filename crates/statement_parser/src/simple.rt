@@ -2,12 +2,11 @@
 
 ghost use Rattle.std.specs.Prelude.{◌≡◌, ◌<◌, ◌≤◌, IfOk, length};
 ghost use Rattle.csl_tree.specs.declared.token.TokenKind.TheVariants as kind;
-ghost use Rattle.csl_tree.specs.declared.token.Mark.TheVariants as mark;
 ghost use Rattle.csl_tree.specs.declared.program.Item.TheVariants as item;
 ghost use Rattle.csl_grammar.specs.Expressions.{whole};
-ghost use Rattle.csl_grammar.specs.Programs.{SpellsItem, SpellsStmt, stmt, type_word};
+ghost use Rattle.csl_grammar.specs.Programs.{SpellsStmt, stmt, type_word};
 ghost use Rattle.csl_grammar.specs.Stops.{IsEnded, Stops};
-ghost use Rattle.expression_parser.specs.Reading.{Answers, ListUntil, Ret, behind, stops_anywhere};
+ghost use Rattle.expression_parser.specs.Reading.{Answers, Ret, behind};
 ghost use Rattle.statement_parser.specs.Statements.{NoElse, EndsAs, DeclRest, Changing, ChangeRest, IndexedRest, CallRest, ReturnRest};
 ghost use Rattle.statement_parser.specs.Statements.{AssertRest, PrintRest};
 
@@ -16,10 +15,9 @@ use csl_tree::program::{Call, Form, Item, Place, Stmt, Ty};
 use csl_tree::token::{Keyword, Mark, Token, TokenKind};
 use expression_parser::ParseError;
 use expression_parser::expr::{WHOLE, arguments, operand};
-use expression_parser::tokens::{
-    comma, copy_of, expect, expect_name, front, is_mark, is_word, operator,
-};
-use sqlite_items::{Boxed, Items};
+use expression_parser::lists::{Element, with_commas};
+use expression_parser::tokens::{copy_of, expect, expect_name, front, is_mark, is_word, operator};
+use sqlite_items::Boxed;
 use std::alloc::Global;
 
 /// The semicolon behind a statement.
@@ -256,44 +254,41 @@ pub fn printed<'a>(
     ensures shorter { IfOk result (λ x. length x.1.now < length tokens.now) }
 {
     let (_, rest) = expect(Mark::OpenParen, tokens)?;
-    let (items, rest) = items(alloc, rest)?;
+    let (items, rest) = with_commas::<PrintList>(alloc, rest)?;
     bare(first, Form::Print(items), rest)
 }
 
-/// Items with commas between, and the parenthesis behind them.
-fn items(alloc: Global, tokens: &[Token]) -> Result<(Items<Item>, &[Token]), ParseError>
-    requires { IsEnded tokens.now }
-    ensures answer { Answers (ListUntil (kind.Mark mark.CloseParen) SpellsItem) stops_anywhere tokens.now (λ x. (x.0, x.1.now)) result }
-    ensures shorter { IfOk result (λ x. length x.1.now < length tokens.now) }
-{
-    let mut items = Items::new(alloc);
-    let (next, rest) = front(tokens);
-    if is_mark(next, Mark::CloseParen) {
-        return Ok((items, rest));
-    }
-    let (i, mut rest) = item(alloc, tokens)?;
-    items.push(i)?;
-    'more: while let Some(behind) = comma(rest) {
-        let (i, left) = item(alloc, behind)?;
-        items.push(i)?;
-        rest = left;
-    }
-    let (_, rest) = expect(Mark::CloseParen, rest)?;
-    Ok((items, rest))
-}
+/// What a `print` lists: texts and values.
+struct PrintList;
 
-/// A text or a value that is printed. No operator stands behind it.
-fn item(alloc: Global, tokens: &[Token]) -> Result<(Item, &[Token]), ParseError>
-    requires { IsEnded tokens.now }
-    ensures answer { Answers SpellsItem (Stops whole) tokens.now (λ x. (x.0, x.1.now)) result }
-    ensures shorter { IfOk result (λ x. length x.1.now < length tokens.now) }
-{
-    let (first, rest) = front(tokens);
-    if let TokenKind::Text(text) = &first.kind {
-        return quoted(alloc, text, rest);
+impl Element for PrintList {
+    ghost use Rattle.csl_tree.specs.declared.token.TokenKind.TheVariants as kind;
+    ghost use Rattle.csl_tree.specs.declared.token.Mark.TheVariants as mark;
+    ghost use Rattle.csl_grammar.specs.Expressions.{whole};
+    ghost use Rattle.csl_grammar.specs.Programs.{SpellsItem};
+    ghost use Rattle.csl_grammar.specs.Stops.{Stops};
+
+    type Tree = Item;
+
+    ghost closing = { kind.Mark mark.CloseParen };
+
+    ghost spells = { SpellsItem };
+
+    ghost stops = { Stops whole };
+
+    fn closes(token: &Token) -> bool {
+        is_mark(token, Mark::CloseParen)
     }
-    let (value, rest) = operand(alloc, WHOLE, tokens)?;
-    Ok((Item::Value(value), rest))
+
+    // No operator stands behind it.
+    fn read(alloc: Global, tokens: &[Token]) -> Result<(Item, &[Token]), ParseError> {
+        let (first, rest) = front(tokens);
+        if let TokenKind::Text(text) = &first.kind {
+            return quoted(alloc, text, rest);
+        }
+        let (value, rest) = operand(alloc, WHOLE, tokens)?;
+        Ok((Item::Value(value), rest))
+    }
 }
 
 /// A text that is printed, behind it. No bracket and no operator stands there.

@@ -9,7 +9,7 @@ use mir.Val.{SFits}
 use mir.Syntax.{w64}
 use Rattle.std.proofs.lemmas.Int.{to_z-of_z}
 use Rattle.csl_grammar.specs.Programs.{SpellsShared, SpellsValue}
-use Rattle.expression_parser.specs.Reading.{stops_anywhere, ListUntil, MoreUntil, IsToken}
+use Rattle.expression_parser.specs.Reading.{stops_anywhere, ListUntil, IsToken}
 use Rattle.csl_parser.specs.Chains.{scalar_of, tally_of, array_of, TallyRest, IntRest, AfterName, ArrayRest, AfterSize, ListedRest}
 use Rattle.expression_parser.proofs.Sequence.{passed, passed_error, passes_through}
 use Rattle.expression_parser.proofs.Steps.{from_first}
@@ -41,3 +41,6 @@ returns-clause-answer c =
     (then_found (d.listed_values c.args.name.now c.args.size) _ _ _ _ _ c.in_ok-values.ensures.answer
     (then_found (d.end_follows (array_of c.args.name.now c.args.size true c.in_ok-values.values)) _ _ _ _ _ (tok_found c.in_ok-rest-2.ensures.answer)
     (ret_found _ stops_anywhere _ tt c.in_ok-rest-2.ensures.answer.ended))))
+
+pub with_commas-requires-clause-elements : goal.with_commas-requires-clause-elements
+with_commas-requires-clause-elements c = d.values_parted

@@ -9,7 +9,7 @@ use mir.Val.{SFits}
 use mir.Syntax.{w64}
 use Rattle.std.proofs.lemmas.Int.{to_z-of_z}
 use Rattle.csl_grammar.specs.Programs.{SpellsShared, SpellsValue}
-use Rattle.expression_parser.specs.Reading.{stops_anywhere, ListUntil, MoreUntil, IsToken}
+use Rattle.expression_parser.specs.Reading.{stops_anywhere, ListUntil, IsToken}
 use Rattle.csl_parser.specs.Chains.{scalar_of, tally_of, array_of, TallyRest, IntRest, AfterName, ArrayRest, AfterSize, ListedRest}
 use Rattle.expression_parser.proofs.Sequence.{passed, passed_error, passes_through}
 use Rattle.expression_parser.proofs.Steps.{from_first}

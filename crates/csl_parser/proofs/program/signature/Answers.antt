@@ -47,3 +47,6 @@ returns-clause-answer c =
     (then_found (d.function_opening c.args.gives c.in_ok-name.name.now) _ _ _ _ _ (tok_found c.in_ok-rest.ensures.answer)
     (then_found (d.function_params c.args.gives c.in_ok-name.name.now) _ _ _ _ _ c.in_ok-params.ensures.answer
     (then_found (d.block_last (function_of c.args.gives c.in_ok-name.name.now c.in_ok-params.params)) _ _ _ _ _ g (ret_found _ stops_anywhere _ tt g.ended)))))
+
+pub with_commas-requires-clause-elements : goal.with_commas-requires-clause-elements
+with_commas-requires-clause-elements c = d.params_parted

@@ -54,3 +54,9 @@ returns c =
     (then_found d.shared_functions _ _ _ _ _ c.in_ok-shared.ensures
     (then_found (d.functions_main c.in_ok-shared.shared) _ _ _ _ _ c.in_ok-functions.ensures
     (then_found (d.main_block c.in_ok-shared.shared c.in_ok-functions.functions) _ _ _ _ _ g (ret_found _ stops_anywhere _ tt g.ended)))))
+
+pub one_by_one-requires-clause-elements : goal.one_by_one-requires-clause-elements
+one_by_one-requires-clause-elements c = d.shared_repeated
+
+pub one_by_one-requires-2-clause-elements : goal.one_by_one-requires-2-clause-elements
+one_by_one-requires-2-clause-elements c = d.functions_repeated

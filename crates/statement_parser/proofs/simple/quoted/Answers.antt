@@ -10,7 +10,7 @@ use Rattle.csl_tree.specs.declared.program.Item.TheVariants as item
 use Rattle.csl_grammar.specs.Expressions.{SpellsExpr, whole, place, call}
 use Rattle.csl_grammar.specs.Stops.{Stops}
 use Rattle.csl_grammar.specs.Programs.{stmt, SpellsItem, SpellsStmt}
-use Rattle.expression_parser.specs.Reading.{stops_anywhere, behind, Ret, ListUntil, MoreUntil}
+use Rattle.expression_parser.specs.Reading.{stops_anywhere, behind, Ret, ListUntil}
 use Rattle.statement_parser.specs.Statements.{NoElse, EndsAs, DeclRest, Changing, ChangeRest, IndexedRest, CallRest, ReturnRest, AssertRest, PrintRest}
 use Rattle.expression_parser.proofs.Sequence.{passed, passed_error, passes_through}
 use Rattle.expression_parser.proofs.Then.{then_first, then_second, then_found, then_answers, then_passes, tok_found, tok_err, ret_found, begins_other}

@@ -16,7 +16,7 @@ use Rattle.statement_parser.specs.Statements.{NoElse, BlockRest, WhileRest, ForR
 use Rattle.expression_parser.proofs.Sequence.{Passes, passed, passed_error, passes_through}
 use Rattle.expression_parser.proofs.Steps.{from_first}
 use Rattle.expression_parser.proofs.Single.{ended_behind}
-use Rattle.expression_parser.proofs.Then.{then_first, then_second, then_found, then_answers, then_passes, tok_found, tok_err, ret_found, begins_other}
+use Rattle.expression_parser.proofs.Then.{then_first, then_second, then_found, then_answers, then_passes, tok_found, tok_err, ret_found, begins_other, until_done, until_err, until_more}
 use Rattle.statement_parser.proofs.Nested as d
 use Rattle.expression_parser.proofs.Sequence.{passes_behind}
 use Rattle.statement_parser.proofs.stmt.+stmt.Goals as goal
@@ -42,20 +42,20 @@ pub statements-returns-in_err-s-clause-answer : goal.statements-returns-in_err-s
 statements-returns-in_err-s-clause-answer t c =
     let p = err_from_is_err_and c.from_residual.result c.from_residual.ensures.1 in
     rw (p.1, p.2) (passed_error _ _ stops_anywhere _ c.args.tokens.now _ c.more.invariant.passes
-    (d.block_err c.more.body c.more.rest.now _ c.in-Some.ensures.1 (rw c.in-Some.ensures.0 at c.in_err-s.ensures.answer)))
+    (until_err d.stmts_repeated c.more.body c.more.rest.now _ c.in-Some.ensures.1 (rw c.in-Some.ensures.0 at c.in_err-s.ensures.answer)))
 
 pub statements-more-preserved : goal.statements-more-preserved
 statements-more-preserved t c =
     record {
       ended = c.in_ok-s.ensures.answer.ended;
       no_longer = omega (arith, c.in_ok-s.ensures.shorter, c.more.invariant.no_longer, ap (λ (x : List Token). length x) c.in-Some.ensures.0);
-      passes = rw c.in_ok-push.ensures.ok (passes_through (d.block_more c.more.body c.more.rest.now _ _ c.in-Some.ensures.1 (rw c.in-Some.ensures.0 at c.in_ok-s.ensures.answer))
+      passes = rw c.in_ok-push.ensures.ok (passes_through (until_more d.stmts_repeated c.more.body c.more.rest.now _ _ c.in-Some.ensures.1 (rw c.in-Some.ensures.0 at c.in_ok-s.ensures.answer))
           c.more.invariant.passes);
     }
 
 pub statements-returns-clause-answer : goal.statements-returns-clause-answer
 statements-returns-clause-answer t c =
-    c.more.invariant.passes.found _ _ (d.block_done c.more.body c.more.rest.now _ _ c.more.invariant.ended c.front.ensures (cc (c.front.ensures, c.in_default.ensures.2, c.in_default.ensures.3)))
+    c.more.invariant.passes.found _ _ (until_done d.stmts_repeated c.more.body c.more.rest.now _ _ c.more.invariant.ended c.front.ensures (cc (c.front.ensures, c.in_default.ensures.2, c.in_default.ensures.3)))
 
 pub statement-returns-in-Named-clause-answer : goal.statement-returns-in-Named-clause-answer
 statement-returns-in-Named-clause-answer t c =
@@ -322,20 +322,20 @@ pub routines-returns-in_err-another-clause-answer : goal.routines-returns-in_err
 routines-returns-in_err-another-clause-answer t c =
     let p = err_from_is_err_and c.from_residual-in_err-another.result c.from_residual-in_err-another.ensures.1 in
     rw (p.1, p.2) (passed_error _ _ stops_anywhere _ c.args.tokens.now _ c.more.invariant.passes
-    (d.step_err c.more.blocks c.more.rest.now _ c.in-Some.ensures.1 (rw c.in-Some.ensures.0 at c.in_err-another.ensures.answer)))
+    (until_err d.routines_repeated c.more.blocks c.more.rest.now _ c.in-Some.ensures.1 (rw c.in-Some.ensures.0 at c.in_err-another.ensures.answer)))
 
 pub routines-more-preserved : goal.routines-more-preserved
 routines-more-preserved t c =
     record {
       ended = c.in_ok-another.ensures.answer.ended;
       shorter = omega (arith, c.in_ok-another.ensures.shorter, c.more.invariant.shorter, ap (λ (x : List Token). length x) c.in-Some.ensures.0);
-      passes = rw c.in_ok-push-2.ensures.ok (passes_through (d.step_more c.more.blocks c.more.rest.now _ _ c.in-Some.ensures.1 (rw c.in-Some.ensures.0 at c.in_ok-another.ensures.answer))
+      passes = rw c.in_ok-push-2.ensures.ok (passes_through (until_more d.routines_repeated c.more.blocks c.more.rest.now _ _ c.in-Some.ensures.1 (rw c.in-Some.ensures.0 at c.in_ok-another.ensures.answer))
           c.more.invariant.passes);
     }
 
 pub routines-returns-clause-answer : goal.routines-returns-clause-answer
 routines-returns-clause-answer t c =
-    c.more.invariant.passes.found _ _ (d.step_done c.more.blocks c.more.rest.now _ _ c.more.invariant.ended c.front.ensures (cc (c.front.ensures, c.in_default.ensures.2, c.in_default.ensures.3)))
+    c.more.invariant.passes.found _ _ (until_done d.routines_repeated c.more.blocks c.more.rest.now _ _ c.more.invariant.ended c.front.ensures (cc (c.front.ensures, c.in_default.ensures.2, c.in_default.ensures.3)))
 
 pub routine-returns-in_err-first-clause-answer : goal.routine-returns-in_err-first-clause-answer
 routine-returns-in_err-first-clause-answer t c =

@@ -12,7 +12,7 @@ use Rattle.expression_parser.proofs.Sequence.{passed, passed_error, passes_throu
 use Rattle.expression_parser.proofs.Steps.{from_first}
 use Rattle.expression_parser.proofs.Then.{then_first, then_second, then_found, tok_found, tok_err, ret_found, begins_other}
 use Rattle.csl_parser.proofs.Functions as d
-use Rattle.csl_parser.proofs.program.function.Goals as goal
+use Rattle.csl_parser.proofs.program.FunctionListElement.read.Goals as goal
 
 pub returns-in-Some-clause-answer : goal.returns-in-Some-clause-answer
 returns-in-Some-clause-answer c =

@@ -15,7 +15,7 @@ use Rattle.expression_parser.proofs.Sequence.{passed, passed_error, passes_throu
 use Rattle.expression_parser.proofs.Steps.{from_first}
 use Rattle.expression_parser.proofs.Then.{then_first, then_second, then_found, then_answers, then_passes, tok_found, tok_err, ret_found, begins_other}
 use Rattle.csl_parser.proofs.Declared as d
-use Rattle.csl_parser.proofs.decl.value.Goals as goal
+use Rattle.csl_parser.proofs.decl.ValueListElement.read.Goals as goal
 
 pub returns-then-is_mark-clause-answer : goal.returns-then-is_mark-clause-answer
 returns-then-is_mark-clause-answer c = from_first SpellsValue stops_anywhere _ c.args.tokens.now _ _ _ c.front.ensures c.negative.ensures.answer

@@ -9,13 +9,13 @@ use mir.Val.{SFits}
 use mir.Syntax.{w64}
 use Rattle.std.proofs.lemmas.Int.{to_z-of_z}
 use Rattle.csl_grammar.specs.Programs.{SpellsShared, SpellsValue}
-use Rattle.expression_parser.specs.Reading.{stops_anywhere, ListUntil, MoreUntil, IsToken}
+use Rattle.expression_parser.specs.Reading.{stops_anywhere, ListUntil, IsToken}
 use Rattle.csl_parser.specs.Chains.{scalar_of, tally_of, array_of, TallyRest, IntRest, AfterName, ArrayRest, AfterSize, ListedRest}
 use Rattle.expression_parser.proofs.Sequence.{passed, passed_error, passes_through}
 use Rattle.expression_parser.proofs.Steps.{from_first}
 use Rattle.expression_parser.proofs.Then.{then_first, then_second, then_found, then_answers, then_passes, tok_found, tok_err, ret_found, begins_other}
 use Rattle.csl_parser.proofs.Declared as d
-use Rattle.csl_parser.proofs.decl.shared.Goals as goal
+use Rattle.csl_parser.proofs.decl.SharedListElement.read.Goals as goal
 
 pub returns-then-is_word-clause-answer : goal.returns-then-is_word-clause-answer
 returns-then-is_word-clause-answer c =

@@ -16,7 +16,7 @@ use Rattle.expression_parser.proofs.Sequence.{passed, passed_error, passes_throu
 use Rattle.expression_parser.proofs.Then.{then_first, then_second, then_found, then_answers, then_passes, tok_found, tok_err, ret_found, begins_other}
 use Rattle.expression_parser.proofs.Steps.{from_first}
 use Rattle.statement_parser.proofs.StatementParts as d
-use Rattle.statement_parser.proofs.simple.item.Goals as goal
+use Rattle.statement_parser.proofs.simple.PrintListElement.read.Goals as goal
 
 pub returns-in-Text-clause-answer : goal.returns-in-Text-clause-answer
 returns-in-Text-clause-answer c =
