@@ -1,5 +1,5 @@
 -- The rules of declarations, each as one part and then another.
-use Rattle.std.proofs.Common.{◌≡◌, ℕ, zero, suc, arith, ℤ, pos, negsuc, ◌-ℤ◌, rules, Bool, true, false, List, [], ◌∷◌, ◌++◌, Some, None, Option, Result, Ok, Err, refl, ap, sym, ◌∙◌, subst}
+use Rattle.std.proofs.Common.{◌≡◌, ℕ, zero, suc, arith, ℤ, pos, negsuc, ◌-ℤ◌, true, false, List, [], ◌∷◌, Some, None, Option, refl, ap, sym, ◌∙◌, subst}
 use Rattle.std.specs.Prelude.{neg_ℤ}
 use Rattle.std.proofs.Math.IntN.{+ℤ_idl}
 use mir.Val.{SFits, to_z, of_z}
@@ -14,14 +14,13 @@ use Rattle.csl_tree.specs.declared.token.Mark.TheVariants as mark
 use Rattle.csl_tree.specs.declared.program.ArraySize.{ArraySize}
 use Rattle.csl_tree.specs.declared.program.Valued.{Valued}
 use Rattle.csl_tree.specs.declared.program.Shared.{Shared}
-use Rattle.expression_parser.specs.declared.ParseError.{ParseError}
-use Rattle.csl_grammar.specs.Stops.{IsEnded, BeginsOtherThan}
-use Rattle.csl_grammar.specs.Programs.{Each, MoreOf, ListOf, nothing, SpellsValue, plain, minus, SpellsInitial, unlisted, listed, SpellsShared, scalar, array, tally}
+use Rattle.csl_grammar.specs.Stops.{IsEnded}
+use Rattle.csl_grammar.specs.Programs.{SpellsValue, plain, minus, unlisted, listed, SpellsShared, scalar, array, tally}
 use Rattle.csl_grammar.proofs.UniqueParts.{unique_value, unique_values}
-use Rattle.expression_parser.specs.Reading.{Found, Refused, Fails, Answers, IsToken, Tok, tok, NameTok, name_tok, SizeTok, size_tok, Ret, ret, Then, seq, Either, this, that, ListUntil}
+use Rattle.expression_parser.specs.Reading.{Found, Refused, Tok, tok, NameTok, name_tok, SizeTok, size_tok, Ret, ret, Then, seq, this, that, ListUntil}
 use Rattle.expression_parser.specs.Reading.{Completes, Parting, behind, number_of, natural_of, if_natural, stops_anywhere}
 use Rattle.csl_parser.specs.Chains.{scalar_of, tally_of, array_of, TallyRest, IntRest, AfterName, ArrayRest, AfterSize, ListedRest}
-use Rattle.expression_parser.proofs.Sequence.{Passes, Same, passes_same, passes_behind, passes_through, passed, passed_error, refused_here}
+use Rattle.expression_parser.proofs.Sequence.{Passes, passes_same, passes_through, refused_here}
 use Rattle.expression_parser.proofs.Single.{some_token, ended_behind, token_found}
 use Rattle.expression_parser.proofs.Then.{Follows, completes_ret, completes_tok, completes_name, completes_size, completes_then, completes_this, completes_list, tok_follows, name_follows}
 use Rattle.expression_parser.proofs.Then.{size_follows, then_passes, tok_found, passes_this, passes_that, begins_other, no_name}

@@ -1,5 +1,5 @@
 -- The rules of functions and programs, each as one part and then another.
-use Rattle.std.proofs.Common.{◌≡◌, ℕ, List, [], ◌∷◌, ◌++◌, Result, Ok, Err, refl, ap, sym, ◌∙◌, subst}
+use Rattle.std.proofs.Common.{◌≡◌, List, [], ◌∷◌, refl, sym, ◌∙◌, subst}
 use Rattle.csl_tree.specs.declared.name.Name.{Name}
 use Rattle.csl_tree.specs.declared.token.Token.{Token}
 use Rattle.csl_tree.specs.declared.token.TokenKind.{TokenKind}
@@ -13,15 +13,12 @@ use Rattle.cal_terms.specs.declared.types.Gives.TheVariants as gives
 use Rattle.csl_tree.specs.declared.program.Param.{Param}
 use Rattle.csl_tree.specs.declared.program.Shared.{Shared}
 use Rattle.csl_tree.specs.declared.program.Function.{Function}
-use Rattle.csl_tree.specs.declared.program.Program.{Program}
 use Rattle.csl_tree.specs.declared.program.Stmt.{Stmt}
-use Rattle.expression_parser.specs.declared.ParseError.{ParseError}
-use Rattle.csl_grammar.specs.Stops.{IsEnded, BeginsOtherThan}
-use Rattle.csl_grammar.specs.Programs.{Each, MoreOf, ListOf, type_word, result_word, SpellsShared, SpellsParam, param, SpellsFunction, function, SpellsBlock, braces, none}
+use Rattle.csl_grammar.specs.Programs.{type_word, result_word, SpellsShared, SpellsParam, param, SpellsFunction, function, SpellsBlock, braces, none}
 use Rattle.csl_grammar.proofs.UniqueParts.{type_word-same, unique_shared, unique_param, unique_params}
 use Rattle.csl_grammar.proofs.UniqueProgram.{result_word-same, unique_block, unique_function, unique_each, no_shared, no_function}
-use Rattle.expression_parser.specs.Reading.{Found, Refused, Fails, Answers, IsToken, Tok, tok, NameTok, name_tok, Ret, ret, Then, seq, ListUntil, Until, Completes, Parting, Repeating, behind, stops_anywhere}
-use Rattle.csl_parser.specs.Program.{param_of, function_of, program_of, ParamRest, ParamsRest, FunctionRest, MainRest, FunctionsRest, ProgramTokens}
+use Rattle.expression_parser.specs.Reading.{Refused, Tok, tok, NameTok, name_tok, Ret, ret, Then, seq, ListUntil, Until, Completes, Parting, Repeating, behind, stops_anywhere}
+use Rattle.csl_parser.specs.Program.{param_of, function_of, program_of, ParamRest, ParamsRest, FunctionRest, MainRest, FunctionsRest}
 use Rattle.expression_parser.proofs.Sequence.{Passes, passes_same, refused_here}
 use Rattle.expression_parser.proofs.Single.{some_token}
 use Rattle.expression_parser.proofs.Then.{Follows, completes_ret, completes_tok, completes_name, completes_then, completes_list, completes_until, tok_follows, name_follows, no_name}

@@ -1,5 +1,5 @@
 -- A program and the end behind it.
-use Rattle.std.proofs.Common.{◌≡◌, ℕ, List, [], ◌∷◌, ◌++◌, Result, Ok, Err, refl, ap, sym, ◌∙◌, subst, append_assoc}
+use Rattle.std.proofs.Common.{◌≡◌, ℕ, List, [], ◌∷◌, ◌++◌, Err, refl, ap, sym, ◌∙◌, subst, append_assoc}
 use Rattle.csl_tree.specs.declared.token.Token.{Token}
 use Rattle.csl_tree.specs.declared.token.TokenKind.TheVariants as kind
 use Rattle.csl_tree.specs.declared.program.Shared.{Shared}
@@ -9,7 +9,7 @@ use Rattle.expression_parser.specs.declared.ParseError.{ParseError}
 use Rattle.expression_parser.specs.declared.ParseError.TheVariants as error
 use Rattle.csl_grammar.specs.Stops.{IsEnded}
 use Rattle.csl_grammar.specs.Programs.{SpellsProgram, program}
-use Rattle.csl_grammar.specs.Spelling.{CanGoOn, IsUnexpected}
+use Rattle.csl_grammar.specs.Spelling.{IsUnexpected}
 use Rattle.csl_grammar.proofs.UniqueProgram.{unique_block}
 use Rattle.expression_parser.specs.Reading.{Found, Refused, Fails, tok, ret, seq, stops_anywhere}
 use Rattle.csl_parser.specs.Program.{program_of, MainRest, ProgramTokens, Tells}

@@ -1,5 +1,5 @@
 -- The rules of declarations as the readers go through them: one part after another.
-use Rattle.std.specs.Prelude.{ℤ, Bool, true, false, List, [], ◌∷◌, Option, Some, None}
+use Rattle.std.specs.Prelude.{Bool, true, false, List, [], Some, None}
 use Rattle.cal_terms.specs.declared.kinds.WordKind.TheVariants as words
 use Rattle.csl_tree.specs.declared.name.Name.{Name}
 use Rattle.csl_tree.specs.declared.token.Token.{Token}

@@ -1,10 +1,9 @@
 -- A rule that is one rule and then another, lists of rules, and a rule that the first token tells.
-use Rattle.std.proofs.Common.{◌≡◌, ℕ, ℤ, pos, Some, None, List, [], ◌∷◌, ◌++◌, Result, Ok, Err, refl, ap, sym, ◌∙◌, subst, append_assoc, append-nil}
+use Rattle.std.proofs.Common.{◌≡◌, ℤ, pos, Some, None, List, [], ◌∷◌, ◌++◌, Result, refl, ap, sym, ◌∙◌, subst, append_assoc, append-nil}
 use Rattle.csl_tree.specs.declared.name.Name.{Name}
 use Rattle.csl_tree.specs.declared.token.Token.{Token}
 use Rattle.csl_tree.specs.declared.token.TokenKind.{TokenKind}
 use Rattle.csl_tree.specs.declared.token.TokenKind.TheVariants as kind
-use Rattle.csl_tree.specs.declared.token.Mark.{Mark}
 use Rattle.csl_tree.specs.declared.token.Mark.TheVariants as mark
 use Rattle.expression_parser.specs.declared.ParseError.{ParseError}
 use Rattle.csl_grammar.specs.Stops.{IsEnded, BeginsOtherThan}
@@ -13,7 +12,7 @@ use Rattle.csl_tree.specs.declared.program.ArraySize.{ArraySize}
 use Rattle.expression_parser.specs.Reading.{Found, Refused, Fails, Answers, IsToken, Tok, tok, NameTok, name_tok, SizeTok, size_tok, Ret, ret, Then, seq, Either, this, that, Until, MoreUntil}
 use Rattle.expression_parser.specs.Reading.{ListUntil, Completes, Parting, Repeating, stops_anywhere, number_of}
 use Rattle.csl_grammar.proofs.Unique.{begins_clash}
-use Rattle.expression_parser.proofs.Sequence.{Cut, Sequence, Passes, after_first, second_error, after_second, passes_second, passes_through, passes_same, passed, passed_error}
+use Rattle.expression_parser.proofs.Sequence.{Cut, Sequence, Passes, after_first, second_error, after_second, passes_second, passes_through, passes_same, passed_error}
 use Rattle.expression_parser.proofs.Single.{some_token, ended_behind, token_found}
 
 -- what makes `Then` readable: a first part has one end and one tree, what follows it stops it, and from behind it some tree can be finished

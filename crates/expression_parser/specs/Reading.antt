@@ -1,5 +1,5 @@
 -- What a reader of the grammar answers: the tree at the front of the tokens, or the first token that no continuation allows.
-use Rattle.std.specs.Prelude.{◌≡◌, ◌≢◌, ◌≤◌, ℕ, ℤ, pos, negsuc, Bool, true, false, List, [], ◌∷◌, ◌++◌, Option, Some, None, Result, Ok, Err}
+use Rattle.std.specs.Prelude.{◌≡◌, ◌≢◌, ℕ, ℤ, pos, negsuc, Bool, true, false, List, ◌∷◌, ◌++◌, Option, Some, None, Result, Ok, Err}
 use Rattle.csl_tree.specs.declared.token.Token.{Token}
 use Rattle.csl_tree.specs.declared.token.TokenKind.{TokenKind}
 use Rattle.csl_tree.specs.declared.token.TokenKind.TheVariants as kind
@@ -7,18 +7,16 @@ use Rattle.csl_tree.specs.declared.token.Keyword.{Keyword}
 use Rattle.csl_tree.specs.declared.token.Keyword.TheVariants as word
 use Rattle.csl_tree.specs.declared.token.Mark.{Mark}
 use Rattle.csl_tree.specs.declared.token.Mark.TheVariants as mark
-use Rattle.csl_tree.specs.declared.program.BinaryOp.{BinaryOp}
-use Rattle.csl_tree.specs.declared.program.BinaryOp.TheVariants as binary_op
 use Rattle.csl_tree.specs.declared.program.UnaryOp.{UnaryOp}
 use Rattle.csl_tree.specs.declared.program.UnaryOp.TheVariants as unary_op
 use Rattle.expression_parser.specs.declared.ParseError.{ParseError}
 use Rattle.expression_parser.specs.declared.ParseError.TheVariants as error
 use Rattle.csl_tree.specs.declared.program.Expr.{Expr}
-use Rattle.csl_grammar.specs.Stops.{IsEnded, BeginsOtherThan, Stops, operator_of}
+use Rattle.csl_grammar.specs.Stops.{IsEnded}
 use Rattle.csl_tree.specs.declared.name.Name.{Name}
 use Rattle.csl_tree.specs.declared.program.ArraySize.{ArraySize}
 use Rattle.csl_grammar.specs.Programs.{Each, MoreOf, ListOf}
-use Rattle.csl_grammar.specs.Expressions.{level_of, mark_of, SpellsArguments, SpellsMore}
+use Rattle.csl_grammar.specs.Expressions.{SpellsArguments, SpellsMore}
 
 -- The tree stands at the front of the tokens, whatever follows it, and cannot go on with what does.
 pub record Found {T : Type 0} (spells : List Token → List Token → T → Type 0) (stops : List Token → Type 0) (tokens rest : List Token)
@@ -185,7 +183,8 @@ pub record Completes {T : Type 0} (spells : List Token → List Token → T → 
 
 -- Elements can be read one behind another up to a token of that kind: each has one end and one tree, whether it stops shows at the
 -- next token, and it stops before the next element and before the closing token.
-pub record Repeating {T : Type 0} (k : TokenKind) (spells : List Token → List Token → T → Type 0) (stops : List Token → Type 0) : Type 0 where
+pub record Repeating {T : Type 0} (k : TokenKind) (spells : List Token → List Token → T → Type 0) (stops : List Token → Type 0)
+    : Type 0 where
   pub unique : (tokens middle middle' : List Token) (x x' : T) → spells tokens middle x → spells tokens middle' x' → stops middle
       → stops middle' → (middle ≡ middle') × (x ≡ x')
   pub same_first : (token : Token) (xs ys : List Token) → stops (token ∷ xs) → stops (token ∷ ys)

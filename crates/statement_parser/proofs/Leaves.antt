@@ -1,5 +1,5 @@
 -- The statements that begin with a keyword and hold no statements.
-use Rattle.std.proofs.Common.{◌≡◌, ◌≤◌, ℕ, List, [], ◌∷◌, ◌++◌, Some, None, Option, refl, ap, sym, ◌∙◌, subst, arith}
+use Rattle.std.proofs.Common.{◌≡◌, List, [], ◌∷◌, Some, None, refl, ap, arith}
 use Rattle.csl_tree.specs.declared.name.Name.{Name}
 use Rattle.csl_tree.specs.declared.token.Token.{Token}
 use Rattle.csl_tree.specs.declared.token.TokenKind.{TokenKind}
@@ -13,10 +13,10 @@ use Rattle.csl_tree.specs.declared.program.Form.TheVariants as form
 use Rattle.csl_tree.specs.declared.program.Item.{Item}
 use Rattle.csl_tree.specs.declared.program.Expr.{Expr}
 use Rattle.csl_grammar.specs.Expressions.{SpellsExpr, whole}
-use Rattle.csl_grammar.specs.Programs.{stmt, ListOf, SpellsItem, SpellsStmt, declared, changed, calls, block, if_else, while_loop, for_loop, break_out, goes_on, returns, returns_value, asserts}
-use Rattle.csl_grammar.specs.Programs.{prints, parallel, braces, none}
-use Rattle.csl_grammar.proofs.UniqueProgram.{form_is, form_at, form_of_kind, form_of_word, form_of_mark, has_form, by_word}
-use Rattle.expression_parser.specs.Reading.{Found, Refused, Tok, tok, Ret, ret, Then, seq, Either, this, that, ListUntil, behind, stops_anywhere}
+use Rattle.csl_grammar.specs.Programs.{stmt, ListOf, SpellsItem, SpellsStmt, block, break_out, goes_on, returns, returns_value, asserts}
+use Rattle.csl_grammar.specs.Programs.{prints, braces, none}
+use Rattle.csl_grammar.proofs.UniqueProgram.{form_is, form_of_kind, form_of_word, form_of_mark, has_form, by_word}
+use Rattle.expression_parser.specs.Reading.{Refused, tok, ret, seq, this, that, behind}
 use Rattle.statement_parser.specs.Statements.{NoElse, EndsAs, ReturnRest, AssertRest, PrintRest}
 use Rattle.statement_parser.specs.Leaves.{holding_of, held_by}
 use Rattle.expression_parser.proofs.Sequence.{Passes, passes_same, refused_here}

@@ -1,5 +1,5 @@
 -- The rules of statements that hold statements.
-use Rattle.std.proofs.Common.{◌≡◌, ◌≤◌, ℕ, pos, List, [], ◌∷◌, ◌++◌, Some, None, Option, Result, Ok, Err, refl, ap, sym, ◌∙◌, subst, arith, append-nil, append_assoc}
+use Rattle.std.proofs.Common.{◌≡◌, List, [], ◌∷◌, ◌++◌, Some, None, Option, refl, ap, sym, ◌∙◌, subst, arith, append-nil, append_assoc}
 use Rattle.csl_tree.specs.declared.name.Name.{Name}
 use Rattle.csl_tree.specs.declared.token.Token.{Token}
 use Rattle.csl_tree.specs.declared.token.TokenKind.{TokenKind}
@@ -12,24 +12,23 @@ use Rattle.csl_tree.specs.declared.program.Stmt.{Stmt}
 use Rattle.csl_tree.specs.declared.program.Arm.{Arm}
 use Rattle.csl_tree.specs.declared.program.RoutineBlock.{RoutineBlock, roll-RoutineBlock}
 use Rattle.csl_tree.specs.declared.program.Form.TheVariants as form
-use Rattle.expression_parser.specs.declared.ParseError.{ParseError}
 use Rattle.csl_grammar.specs.Expressions.{SpellsExpr, whole}
 use Rattle.csl_grammar.specs.Stops.{IsEnded, BeginsOtherThan, Stops}
-use Rattle.csl_grammar.specs.Programs.{stmt, arm, Each, stop, again, SpellsStmt, declared, changed, calls, block, if_else, while_loop, for_loop, break_out, goes_on, returns, returns_value, asserts}
-use Rattle.csl_grammar.specs.Programs.{prints, parallel, SpellsStart, declares, changes, SpellsChange, SpellsBlock, braces, SpellsStmts, none, one_more, SpellsArm, tested, SpellsElse, no_else}
+use Rattle.csl_grammar.specs.Programs.{stmt, arm, Each, stop, again, SpellsStmt, block, if_else, while_loop, for_loop}
+use Rattle.csl_grammar.specs.Programs.{parallel, SpellsStart, changes, SpellsChange, SpellsBlock, braces, SpellsStmts, none, one_more, SpellsArm, tested, SpellsElse, no_else}
 use Rattle.csl_grammar.specs.Programs.{else_if, else_block, SpellsRoutine, routine, SpellsRoutines, no_routine, one_routine}
-use Rattle.csl_grammar.proofs.Unique.{unique, begins_clash}
+use Rattle.csl_grammar.proofs.Unique.{begins_clash}
 use Rattle.csl_grammar.proofs.UniqueParts.{unique_change, stops_paren, stops_semicolon}
-use Rattle.csl_grammar.proofs.UniqueProgram.{form_is, form_at, by_word, by_mark, unique_stmt, unique_start, unique_block, unique_stmts, unique_arm, unique_else, unique_routine, unique_routines}
+use Rattle.csl_grammar.proofs.UniqueProgram.{form_is, by_word, by_mark, unique_stmt, unique_start, unique_block, unique_stmts, unique_arm, unique_routine, unique_routines}
 use Rattle.csl_grammar.proofs.UniqueProgram.{stmts_no_else}
-use Rattle.expression_parser.specs.Reading.{Found, Refused, Fails, Answers, Tok, tok, NameTok, name_tok, Ret, ret, Then, seq, Until, Completes, Repeating, behind, stops_anywhere}
+use Rattle.expression_parser.specs.Reading.{Found, Tok, tok, NameTok, name_tok, Ret, ret, Then, seq, Until, Completes, Repeating, behind, stops_anywhere}
 use Rattle.statement_parser.specs.Statements.{NoElse, EndsAs, BlockRest, WhileRest, ForRest, IfRest, ElseFrom, RoutinesRest, ParRest, TwoNames, both}
-use Rattle.expression_parser.proofs.Sequence.{Passes, passes_same, passes_behind, passes_through, passed, passed_error}
+use Rattle.expression_parser.proofs.Sequence.{Passes, passes_same, passes_behind, passes_through}
 use Rattle.expression_parser.proofs.Rules.{stops_same}
-use Rattle.expression_parser.proofs.Single.{some_token, ended_behind, token_found}
-use Rattle.expression_parser.proofs.Then.{Follows, completes_ret, completes_tok, completes_name, completes_then, completes_until, tok_follows, then_first, then_second, then_found}
-use Rattle.expression_parser.proofs.Then.{then_answers, then_passes, tok_found, tok_err, ret_found, narrowed, narrowed_by, begins_other, no_name}
-use Rattle.statement_parser.proofs.StatementParts.{some_expr, some_change, ends_as, expr_before, semicolon_behind}
+use Rattle.expression_parser.proofs.Single.{some_token, token_found}
+use Rattle.expression_parser.proofs.Then.{Follows, completes_ret, completes_tok, completes_name, completes_then, completes_until, tok_follows}
+use Rattle.expression_parser.proofs.Then.{then_passes, tok_found, narrowed, narrowed_by, begins_other}
+use Rattle.statement_parser.proofs.StatementParts.{some_expr, some_change, ends_as, expr_before}
 
 abbrev brace : TokenKind
 brace = kind.Mark mark.CloseBrace

@@ -1,10 +1,9 @@
 -- The rules of simple statements, each as one part and then another.
-use Rattle.std.proofs.Common.{◌≡◌, ◌≤◌, ℕ, ℤ, pos, Bool, true, false, List, [], ◌∷◌, ◌++◌, Some, None, Option, Result, Ok, Err, refl, ap, sym, ◌∙◌, subst, arith}
+use Rattle.std.proofs.Common.{◌≡◌, ◌≤◌, pos, List, [], ◌∷◌, Some, None, refl, ap, sym, ◌∙◌, subst, arith}
 use Rattle.csl_tree.specs.declared.name.Name.{Name}
 use Rattle.csl_tree.specs.declared.token.Token.{Token}
 use Rattle.csl_tree.specs.declared.token.TokenKind.{TokenKind}
 use Rattle.csl_tree.specs.declared.token.TokenKind.TheVariants as kind
-use Rattle.csl_tree.specs.declared.token.Keyword.{Keyword}
 use Rattle.csl_tree.specs.declared.token.Keyword.TheVariants as word
 use Rattle.csl_tree.specs.declared.token.Mark.{Mark}
 use Rattle.csl_tree.specs.declared.token.Mark.TheVariants as mark
@@ -19,25 +18,24 @@ use Rattle.csl_tree.specs.declared.program.Node.TheVariants as node
 use Rattle.csl_tree.specs.declared.program.Form.TheVariants as form
 use Rattle.csl_tree.specs.declared.program.BinaryOp.{BinaryOp}
 use Rattle.csl_tree.specs.declared.program.BinaryOp.TheVariants as binary_op
-use Rattle.expression_parser.specs.declared.ParseError.{ParseError}
-use Rattle.csl_grammar.specs.Expressions.{SpellsExpr, chain, number, ends, whole, level_of, mark_of, expr, place, call, SpellsArguments, nothing as no_arguments}
+use Rattle.csl_grammar.specs.Expressions.{SpellsExpr, chain, number, ends, whole, level_of, mark_of, expr, place, call, nothing as no_arguments}
 use Rattle.csl_grammar.specs.Stops.{IsEnded, BeginsOtherThan, Stops, operator_of}
-use Rattle.csl_grammar.specs.Programs.{IsMark, IsWord, type_word, stmt, SpellsPlace, bare, indexed, SpellsCall, called, SpellsDecl, declare, SpellsChange, set, add_to, SpellsItem, text, value}
-use Rattle.csl_grammar.specs.Programs.{SpellsStmt, declared, changed, calls, block, if_else, while_loop, for_loop, break_out, goes_on, returns, returns_value, asserts, prints, parallel}
+use Rattle.csl_grammar.specs.Programs.{type_word, stmt, SpellsPlace, bare, indexed, SpellsCall, called, SpellsDecl, declare, SpellsChange, set, add_to, SpellsItem, text, value}
+use Rattle.csl_grammar.specs.Programs.{SpellsStmt, declared, changed, calls}
 use Rattle.csl_grammar.specs.Programs.{SpellsStart, declares, changes}
-use Rattle.csl_grammar.proofs.Unique.{unique, unique_arguments, stops_at, operator_of-mark_of}
+use Rattle.csl_grammar.proofs.Unique.{unique, stops_at, operator_of-mark_of}
 use Rattle.csl_grammar.proofs.UniqueParts.{type_word-same, no_text, unique_item, unique_items, unique_decl, unique_change, no_expression, semicolon_begins_none, stops_semicolon, stops_paren}
-use Rattle.csl_grammar.proofs.UniqueParts.{stops_bracket, stops_comma}
-use Rattle.csl_grammar.proofs.UniqueProgram.{form_is, form_at, unique_start, by_word, by_name, type_form, form_of_change, form_of_call}
-use Rattle.expression_parser.specs.Reading.{Found, Refused, Fails, Answers, IsToken, Tok, tok, NameTok, name_tok, Ret, ret, Then, seq, Either, this, that, ListUntil, SpellsClosed, at_mark}
+use Rattle.csl_grammar.proofs.UniqueParts.{stops_comma}
+use Rattle.csl_grammar.proofs.UniqueProgram.{form_is, by_word, by_name, type_form, form_of_change, form_of_call}
+use Rattle.expression_parser.specs.Reading.{Found, Refused, Tok, tok, NameTok, name_tok, Ret, ret, Then, seq, this, that, ListUntil, SpellsClosed, at_mark}
 use Rattle.expression_parser.specs.Reading.{Completes, Parting, behind, stops_anywhere}
-use Rattle.statement_parser.specs.Statements.{NoElse, EndsAs, DeclRest, Changing, IndexedRest, ChangeRest, CallRest, ReturnRest, AssertRest, PrintRest, SecondName, TwoNames, both}
-use Rattle.expression_parser.proofs.Sequence.{Passes, passes_same, passes_behind, passes_through, passed, passed_error, refused_here}
+use Rattle.statement_parser.specs.Statements.{NoElse, EndsAs, DeclRest, Changing, IndexedRest, ChangeRest, CallRest, ReturnRest, SecondName, both}
+use Rattle.expression_parser.proofs.Sequence.{Passes, passes_same, passes_through, refused_here}
 use Rattle.expression_parser.proofs.Rules.{stops_same, unique_closed}
 use Rattle.expression_parser.proofs.Steps.{operator_kind}
-use Rattle.expression_parser.proofs.Single.{some_token, ended_behind, token_found}
-use Rattle.expression_parser.proofs.Then.{Follows, completes_ret, completes_tok, completes_name, completes_then, completes_this, completes_list, tok_follows, name_follows, then_first}
-use Rattle.expression_parser.proofs.Then.{then_second, then_found, then_passes, tok_found, tok_err, ret_found, narrowed, narrowed_by, passes_this, passes_that, begins_other, no_name}
+use Rattle.expression_parser.proofs.Single.{some_token, token_found}
+use Rattle.expression_parser.proofs.Then.{Follows, completes_ret, completes_tok, completes_name, completes_then, completes_this, completes_list, tok_follows, name_follows}
+use Rattle.expression_parser.proofs.Then.{then_passes, tok_found, ret_found, narrowed, narrowed_by, passes_this, passes_that, begins_other, no_name}
 
 -- ---- what completes
 

@@ -1,4 +1,3 @@
-use Rattle.std.proofs.Common.{◌≡◌}
 use Rattle.std.proofs.lemmas.Result.{err_from_is_err_and}
 use Rattle.csl_parser.proofs.Only.{text_ended, flat_only, spelled_only}
 use Rattle.csl_parser.proofs.parse.Goals as goal

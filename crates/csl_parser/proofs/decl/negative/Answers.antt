@@ -1,19 +1,8 @@
-use Rattle.std.proofs.Common.{Some, refl, ◌≡◌, ◌≤◌, ◌∙◌, sym, ap, arith, rules, List, length, [], ◌∷◌, ◌++◌}
-use Rattle.std.proofs.lemmas.Result.{err_from_is_err_and}
-use Rattle.csl_tree.specs.declared.token.Token.{Token}
-use Rattle.csl_tree.specs.declared.token.TokenKind.TheVariants as kind
-use Rattle.csl_tree.specs.declared.token.Keyword.TheVariants as word
-use Rattle.csl_tree.specs.declared.token.Mark.TheVariants as mark
-use Rattle.csl_tree.specs.declared.program.Valued.{Valued}
+use Rattle.std.proofs.Common.{Some, ◌≡◌, rules}
 use mir.Val.{SFits}
 use mir.Syntax.{w64}
 use Rattle.std.proofs.lemmas.Int.{to_z-of_z}
-use Rattle.csl_grammar.specs.Programs.{SpellsShared, SpellsValue}
-use Rattle.expression_parser.specs.Reading.{stops_anywhere, natural_of, ListUntil}
-use Rattle.csl_parser.specs.Chains.{scalar_of, tally_of, array_of, TallyRest, IntRest, AfterName, ArrayRest, AfterSize, ListedRest}
-use Rattle.expression_parser.proofs.Sequence.{passed, passed_error, passes_through}
-use Rattle.expression_parser.proofs.Steps.{from_first}
-use Rattle.expression_parser.proofs.Then.{then_first, then_second, then_found, then_answers, then_passes, tok_found, tok_err, ret_found, begins_other}
+use Rattle.expression_parser.specs.Reading.{natural_of}
 use Rattle.csl_parser.proofs.Declared as d
 use Rattle.csl_parser.proofs.decl.negative.Goals as goal
 

@@ -1,8 +1,4 @@
-use Rattle.std.proofs.Common.{refl, ◌≡◌}
 use Rattle.std.proofs.lemmas.Result.{err_from_is_err_and}
-use Rattle.csl_tree.specs.declared.token.TokenKind.TheVariants as kind
-use Rattle.csl_tree.specs.declared.token.Keyword.TheVariants as word
-use Rattle.csl_tree.specs.declared.token.Mark.TheVariants as mark
 use Rattle.expression_parser.specs.Reading.{stops_anywhere}
 use Rattle.csl_parser.specs.Chains.{tally_of}
 use Rattle.expression_parser.proofs.Then.{then_first, then_second, then_found, tok_found, tok_err, ret_found}

@@ -1,4 +1,4 @@
-use Rattle.std.proofs.Common.{◌≡◌, ◌≤◌, ◌<◌, ◌∙◌, sym, ap, subst, arith, rules, refl}
+use Rattle.std.proofs.Common.{◌≤◌, ap, arith}
 use Rattle.csl_grammar.specs.Levels.{Nesting, behind, most_levels}
 use Rattle.csl_parser.proofs.Depth.{keeps_deep, keeps_more, low_behind}
 use Rattle.csl_parser.proofs.levels.check.Goals as goal

@@ -1,4 +1,4 @@
-use Rattle.std.proofs.Common.{refl, ◌≡◌}
+use Rattle.std.proofs.Common.{refl}
 use Rattle.std.proofs.lemmas.Result.{err_from_is_err_and}
 use Rattle.expression_parser.specs.Reading.{stops_anywhere}
 use Rattle.expression_parser.proofs.Sequence.{passed_error, passes_through}

@@ -1,4 +1,4 @@
-use Rattle.std.proofs.Common.{refl, rules, ap, arith, List, length}
+use Rattle.std.proofs.Common.{refl, ap, arith, List, length}
 use Rattle.csl_tree.specs.declared.token.Token.{Token}
 use Rattle.csl_tree.specs.declared.token.TokenKind.TheVariants as kind
 use Rattle.expression_parser.proofs.Single.{token_found, token_refused}

@@ -1,11 +1,7 @@
-use Rattle.std.proofs.Common.{refl, rules, ap, arith, List, length}
+use Rattle.std.proofs.Common.{refl, ap, arith, List, length}
 use Rattle.csl_tree.specs.declared.token.Token.{Token}
 use Rattle.csl_tree.specs.declared.token.TokenKind.TheVariants as kind
 use Rattle.expression_parser.proofs.Single.{token_found, token_refused}
-use Rattle.expression_parser.proofs.Then.{name_found, name_refused, size_found, size_refused}
-use mir.Val.{SFits}
-use mir.Syntax.{w64}
-use Rattle.std.proofs.lemmas.Int.{to_z-of_z}
 use Rattle.expression_parser.proofs.tokens.expect_word.Goals as goal
 
 pub returns-then-is_word : goal.returns-then-is_word

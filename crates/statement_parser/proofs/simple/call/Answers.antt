@@ -1,20 +1,8 @@
-use Rattle.std.proofs.Common.{Some, None, true, false, refl, ◌≡◌, ◌≤◌, ◌∙◌, sym, ap, arith, rules, List, length, [], ◌∷◌, ◌++◌}
 use Rattle.std.proofs.lemmas.Result.{err_from_is_err_and}
-use Rattle.csl_tree.specs.declared.token.Token.{Token}
-use Rattle.csl_tree.specs.declared.token.TokenKind.TheVariants as kind
-use Rattle.csl_tree.specs.declared.token.Keyword.TheVariants as word
-use Rattle.csl_tree.specs.declared.token.Mark.TheVariants as mark
 use Rattle.csl_tree.specs.declared.program.Form.TheVariants as form
-use Rattle.csl_tree.specs.declared.program.Item.{Item}
-use Rattle.csl_tree.specs.declared.program.Item.TheVariants as item
-use Rattle.csl_grammar.specs.Expressions.{SpellsExpr, whole, place, call}
-use Rattle.csl_grammar.specs.Stops.{Stops}
-use Rattle.csl_grammar.specs.Programs.{stmt, SpellsItem, SpellsStmt}
-use Rattle.expression_parser.specs.Reading.{stops_anywhere, behind, Ret, ListUntil}
-use Rattle.statement_parser.specs.Statements.{NoElse, EndsAs, DeclRest, Changing, ChangeRest, IndexedRest, CallRest, ReturnRest, AssertRest, PrintRest}
-use Rattle.expression_parser.proofs.Sequence.{passed, passed_error, passes_through}
-use Rattle.expression_parser.proofs.Then.{then_first, then_second, then_found, then_answers, then_passes, tok_found, tok_err, ret_found, begins_other}
-use Rattle.expression_parser.proofs.Steps.{from_first}
+use Rattle.csl_grammar.specs.Expressions.{call}
+use Rattle.csl_grammar.specs.Programs.{stmt}
+use Rattle.expression_parser.proofs.Then.{then_first, then_answers}
 use Rattle.statement_parser.proofs.StatementParts as d
 use Rattle.statement_parser.proofs.simple.call.Goals as goal
 

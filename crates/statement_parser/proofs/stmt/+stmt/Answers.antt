@@ -1,22 +1,16 @@
-use Rattle.std.proofs.Common.{Some, None, true, false, refl, ◌≡◌, ◌≤◌, ◌∙◌, sym, ap, arith, rules, List, length, [], ◌∷◌, ◌++◌}
+use Rattle.std.proofs.Common.{Some, refl, ◌≡◌, ◌∙◌, ap, arith, List, length, [], ◌∷◌, ◌++◌}
 use Rattle.std.proofs.lemmas.Result.{err_from_is_err_and}
 use Rattle.csl_tree.specs.declared.token.Token.{Token}
-use Rattle.csl_tree.specs.declared.token.TokenKind.TheVariants as kind
-use Rattle.csl_tree.specs.declared.token.Keyword.TheVariants as word
-use Rattle.csl_tree.specs.declared.token.Mark.TheVariants as mark
-use Rattle.csl_tree.specs.declared.program.Stmt.{Stmt}
 use Rattle.csl_tree.specs.declared.program.Arm.{Arm}
 use Rattle.csl_tree.specs.declared.program.RoutineBlock.{RoutineBlock}
 use Rattle.csl_tree.specs.declared.program.Form.TheVariants as form
-use Rattle.csl_grammar.specs.Expressions.{SpellsExpr, whole}
-use Rattle.csl_grammar.specs.Stops.{Stops, IsEnded}
-use Rattle.csl_grammar.specs.Programs.{stmt, arm, SpellsStmt, SpellsBlock, SpellsArm, SpellsRoutine}
-use Rattle.expression_parser.specs.Reading.{Until, behind, stops_anywhere}
-use Rattle.statement_parser.specs.Statements.{NoElse, BlockRest, WhileRest, ForRest, IfRest, ElseFrom, RoutinesRest, ParRest}
+use Rattle.csl_grammar.specs.Programs.{stmt, arm, SpellsStmt}
+use Rattle.expression_parser.specs.Reading.{behind, stops_anywhere}
+use Rattle.statement_parser.specs.Statements.{NoElse}
 use Rattle.expression_parser.proofs.Sequence.{Passes, passed, passed_error, passes_through}
 use Rattle.expression_parser.proofs.Steps.{from_first}
 use Rattle.expression_parser.proofs.Single.{ended_behind}
-use Rattle.expression_parser.proofs.Then.{then_first, then_second, then_found, then_answers, then_passes, tok_found, tok_err, ret_found, begins_other, until_done, until_err, until_more}
+use Rattle.expression_parser.proofs.Then.{then_first, then_second, then_found, then_answers, then_passes, tok_found, tok_err, ret_found, until_done, until_err, until_more}
 use Rattle.statement_parser.proofs.Nested as d
 use Rattle.expression_parser.proofs.Sequence.{passes_behind}
 use Rattle.statement_parser.proofs.stmt.+stmt.Goals as goal
@@ -55,7 +49,8 @@ statements-more-preserved t c =
 
 pub statements-returns-clause-answer : goal.statements-returns-clause-answer
 statements-returns-clause-answer t c =
-    c.more.invariant.passes.found _ _ (until_done d.stmts_repeated c.more.body c.more.rest.now _ _ c.more.invariant.ended c.front.ensures (cc (c.front.ensures, c.in_default.ensures.2, c.in_default.ensures.3)))
+    c.more.invariant.passes.found _ _ (until_done d.stmts_repeated c.more.body c.more.rest.now _ _ c.more.invariant.ended c.front.ensures
+    (cc (c.front.ensures, c.in_default.ensures.2, c.in_default.ensures.3)))
 
 pub statement-returns-in-Named-clause-answer : goal.statement-returns-in-Named-clause-answer
 statement-returns-in-Named-clause-answer t c =
@@ -329,13 +324,15 @@ routines-more-preserved t c =
     record {
       ended = c.in_ok-another.ensures.answer.ended;
       shorter = omega (arith, c.in_ok-another.ensures.shorter, c.more.invariant.shorter, ap (λ (x : List Token). length x) c.in-Some.ensures.0);
-      passes = rw c.in_ok-push-2.ensures.ok (passes_through (until_more d.routines_repeated c.more.blocks c.more.rest.now _ _ c.in-Some.ensures.1 (rw c.in-Some.ensures.0 at c.in_ok-another.ensures.answer))
+      passes = rw c.in_ok-push-2.ensures.ok (passes_through (until_more d.routines_repeated c.more.blocks c.more.rest.now _ _ c.in-Some.ensures.1
+          (rw c.in-Some.ensures.0 at c.in_ok-another.ensures.answer))
           c.more.invariant.passes);
     }
 
 pub routines-returns-clause-answer : goal.routines-returns-clause-answer
 routines-returns-clause-answer t c =
-    c.more.invariant.passes.found _ _ (until_done d.routines_repeated c.more.blocks c.more.rest.now _ _ c.more.invariant.ended c.front.ensures (cc (c.front.ensures, c.in_default.ensures.2, c.in_default.ensures.3)))
+    c.more.invariant.passes.found _ _ (until_done d.routines_repeated c.more.blocks c.more.rest.now _ _ c.more.invariant.ended c.front.ensures
+    (cc (c.front.ensures, c.in_default.ensures.2, c.in_default.ensures.3)))
 
 pub routine-returns-in_err-first-clause-answer : goal.routine-returns-in_err-first-clause-answer
 routine-returns-in_err-first-clause-answer t c =
