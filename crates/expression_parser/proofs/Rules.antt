@@ -1,8 +1,7 @@
 -- The rules of the grammar, each as one rule and then another.
-use Rattle.std.proofs.Common.{◌≡◌, ◌≤◌, ℕ, zero, suc, ℤ, Bool, List, [], ◌∷◌, ◌++◌, Some, None, refl, ap, sym, ◌∙◌, subst, arith, append_assoc, append-nil}
+use Rattle.std.proofs.Common.{◌≡◌, ◌≤◌, ℕ, zero, suc, ℤ, Bool, List, [], ◌∷◌, Some, None, refl, ap, sym, ◌∙◌, subst, arith}
 use Rattle.csl_tree.specs.declared.name.Name.{Name}
 use Rattle.csl_tree.specs.declared.token.Token.{Token}
-use Rattle.csl_tree.specs.declared.token.TokenKind.{TokenKind}
 use Rattle.csl_tree.specs.declared.token.TokenKind.TheVariants as kind
 use Rattle.csl_tree.specs.declared.token.Mark.{Mark}
 use Rattle.csl_tree.specs.declared.token.Mark.TheVariants as mark
@@ -10,13 +9,12 @@ use Rattle.csl_tree.specs.declared.program.UnaryOp.{UnaryOp}
 use Rattle.csl_tree.specs.declared.program.BinaryOp.{BinaryOp}
 use Rattle.csl_tree.specs.declared.program.Expr.{Expr}
 use Rattle.csl_tree.specs.declared.program.Node.TheVariants as node
-use Rattle.csl_grammar.specs.Expressions.{SpellsExpr, SpellsChain, SpellsArguments, SpellsMore, chain, prefixed, number, truth, named, indexed, called, paren, ends, goes_on, nothing, something}
-use Rattle.csl_grammar.specs.Expressions.{no_more, more, level_of, mark_of, prefix_mark, truth_word, expr, binary, whole, place, call}
-use Rattle.csl_grammar.specs.Stops.{BeginsOtherThan, Stops, IsEnded}
-use Rattle.expression_parser.specs.Reading.{Found, Refused, IsToken, Returns, behind, stops_anywhere, SpellsClosed, SpellsMoreClosed}
-use Rattle.csl_grammar.proofs.Unique.{unique, unique_arguments, chain_stops, more_stops, stops_at, begins_clash, mark_of-same, prefix_mark-same, prefix_mark-open, truth_word-same, level_of-positive}
-use Rattle.csl_grammar.proofs.Unique.{not_closing}
-use Rattle.expression_parser.proofs.Sequence.{Cut, Sequence, Same, Passes}
+use Rattle.csl_grammar.specs.Expressions.{SpellsExpr, SpellsChain, SpellsArguments, chain, prefixed, number, truth, named, indexed, called, paren, ends, goes_on}
+use Rattle.csl_grammar.specs.Expressions.{level_of, mark_of, prefix_mark, truth_word, expr, binary, whole, place, call}
+use Rattle.csl_grammar.specs.Stops.{Stops, IsEnded}
+use Rattle.expression_parser.specs.Reading.{Found, Refused, IsToken, Returns, behind, stops_anywhere, SpellsClosed}
+use Rattle.csl_grammar.proofs.Unique.{unique, unique_arguments, chain_stops, stops_at, begins_clash, mark_of-same, prefix_mark-same, prefix_mark-open, truth_word-same, level_of-positive}
+use Rattle.expression_parser.proofs.Sequence.{Cut, Sequence, Same}
 use Rattle.expression_parser.proofs.Single.{some_token}
 
 -- whether an expression stops shows at the next token
@@ -304,108 +302,3 @@ stops_first next rest bracket round = record {
 pub stops_here : (tokens : List Token) (next : Token) (rest : List Token) → tokens ≡ next ∷ rest → (next.kind ≡ kind.Mark mark.OpenBracket → ⊥) → (next.kind ≡ kind.Mark mark.OpenParen → ⊥)
     → Stops 0 tokens
 stops_here tokens next rest split bracket round = subst (λ (x : List Token). Stops 0 x) (sym split) (stops_first next rest bracket round)
-
--- arguments that go on: some were read, and a comma comes next
-more_cut : (sofar : List Expr) {args : List Expr} {comma : Token} {tokens rest all end : List Token} {es : List Expr} → SpellsMore all end es → all ≡ comma ∷ tokens → (closing : Token)
-    → end ≡ closing ∷ rest → closing.kind ≡ kind.Mark mark.CloseParen → args ≡ sofar ++ es → comma.kind ≡ kind.Mark mark.Comma
-    → Cut (SpellsExpr whole) (Stops whole) (λ e. SpellsMoreClosed (sofar ++ e ∷ [])) tokens rest args
-more_cut sofar no_more e closing to c is here = absurd (cc)
-more_cut sofar {args = args} {tokens = tokens} {rest = rest} (more {tokens = w} {middle = m} {e = x} {es = es} k d ms) e closing to c is here =
-    let at_tokens : w ≡ tokens = cc in
-    let on : List Token → Type 0 = λ y. SpellsExpr whole y m x in
-    let until : List Token → Type 0 = λ y. SpellsMore m y es in
-    record { middle = m; part = x; one = subst on at_tokens d; stopped = more_stops ms to c; two = (closing, es, subst until to ms, c, is ∙ sym (append_assoc sofar (x ∷ []) es)) }
-
-pub more_rule : (sofar : List Expr) (comma : Token) → comma.kind ≡ kind.Mark mark.Comma → Sequence (SpellsExpr whole) (Stops whole) (λ e. SpellsMoreClosed (sofar ++ e ∷ []))
-    (behind comma (SpellsMoreClosed sofar)) stops_anywhere
-more_rule sofar comma here = record {
-  join = λ tokens middle rest part tree d r. (r.0, part ∷ r.1, more here d r.2, r.3, r.4 ∙ append_assoc sofar (part ∷ []) r.1);
-  cut = λ tokens rest tree d s. more_cut sofar d.2 refl d.0 refl d.3 d.4 here;
-  unique = unique_expr whole;
-  same_first = stops_same whole;
-  ending = λ part. some_token (kind.Mark mark.CloseParen) ∷ [];
-  finished = λ part. (sofar ++ part ∷ []) ++ [];
-  some = λ part others. (some_token (kind.Mark mark.CloseParen), [], no_more, refl, refl);
-}
-
--- where no comma comes next, the arguments end
-last_cut : {tokens end : List Token} {es : List Expr} → SpellsMore tokens end es → BeginsOtherThan (kind.Mark mark.Comma) tokens → (tokens ≡ end) × (es ≡ [])
-last_cut no_more h = (refl, refl)
-last_cut (more k d ms) h = absurd (h k)
-
--- arguments of which one at least is there
-abbrev pub SpellsSome : List Token → List Token → List Expr → Type 0
-SpellsSome tokens rest args = BeginsOtherThan (kind.Mark mark.CloseParen) tokens × SpellsClosed tokens rest args
-
-not_closing_first : {level : ℕ} {tokens middle : List Token} {e : Expr} → SpellsExpr level tokens middle e → BeginsOtherThan (kind.Mark mark.CloseParen) tokens
-not_closing_first {tokens = tokens} d = by_cases tokens (λ first rest split same. not_closing d split same)
-  where
-    by_cases : (tokens : List Token) → ((first : Token) (rest : List Token) → tokens ≡ first ∷ rest → first.kind ≡ kind.Mark mark.CloseParen → ⊥) → BeginsOtherThan (kind.Mark mark.CloseParen) tokens
-    by_cases [] h = tt
-    by_cases (x ∷ xs) h = h x xs refl
-
-some_cut : {tokens end rest : List Token} {args : List Expr} → SpellsArguments tokens end args → (closing : Token) → end ≡ closing ∷ rest → closing.kind ≡ kind.Mark mark.CloseParen
-    → BeginsOtherThan (kind.Mark mark.CloseParen) tokens → Cut (SpellsExpr whole) (Stops whole) (λ e. SpellsMoreClosed (e ∷ [])) tokens rest args
-some_cut nothing closing to c other = absurd (begins_clash _ other to c)
-some_cut {rest = rest} (something {middle = m} {e = x} {es = es} d ms) closing to c other =
-    let until : List Token → Type 0 = λ y. SpellsMore m y es in
-    record { middle = m; part = x; one = d; stopped = more_stops ms to c; two = (closing, es, subst until to ms, c, refl) }
-
-pub some_rule : Sequence (SpellsExpr whole) (Stops whole) (λ e. SpellsMoreClosed (e ∷ [])) SpellsSome stops_anywhere
-some_rule = record {
-  join = λ tokens middle rest part tree d r.
-      let as_args : List Expr → Type 0 = λ x. SpellsClosed tokens rest x in
-      let spelled : SpellsClosed tokens rest (part ∷ r.1) = (r.0, something d r.2, r.3) in
-      (not_closing_first d, subst as_args (sym r.4) spelled);
-  cut = λ tokens rest tree d s. some_cut d.1.1 d.1.0 refl d.1.2 d.0;
-  unique = unique_expr whole;
-  same_first = stops_same whole;
-  ending = λ part. some_token (kind.Mark mark.CloseParen) ∷ [];
-  finished = λ part. (part ∷ []) ++ [];
-  some = λ part others. (some_token (kind.Mark mark.CloseParen), [], no_more, refl, refl);
-}
-
-begins_alike : (k : TokenKind) (tokens read : List Token) (token : Token) (left others : List Token) → BeginsOtherThan k tokens → tokens ≡ read ++ token ∷ left
-    → BeginsOtherThan k (read ++ token ∷ others)
-begins_alike k tokens read token left others h split = at_front read (subst (λ (x : List Token). BeginsOtherThan k x) split h)
-  where
-    at_front : (read : List Token) → BeginsOtherThan k (read ++ token ∷ left) → BeginsOtherThan k (read ++ token ∷ others)
-    at_front [] h = h
-    at_front (x ∷ xs) h = h
-
--- a rule read where the first token is known not to be of a kind
-pub known_other : {T : Type 0} (k : TokenKind) (spells : List Token → List Token → T → Type 0) (stops : List Token → Type 0) (tokens : List Token) → BeginsOtherThan k tokens
-    → Passes (λ ts rest tree. BeginsOtherThan k ts × spells ts rest tree) spells stops tokens tokens
-known_other k spells stops tokens h = record {
-  found = λ rest tree f. record { read = f.read; split = f.split; spelled = λ others. (f.spelled others).1; stopped = f.stopped; ended = f.ended };
-  refused = λ at r. record {
-    read = r.read;
-    token = r.token;
-    left = r.left;
-    split = r.split;
-    stands = r.stands;
-    none = λ others rest tree d s. r.none others rest tree (begins_alike k tokens r.read r.token r.left others h r.split, d) s;
-    ending = r.ending;
-    finished = r.finished;
-    some = λ others. (r.some others).1;
-  };
-}
-
--- the parenthesis, and the arguments are known
-abbrev pub IsTokenThen : List Expr → List Token → List Token → List Expr → Type 0
-IsTokenThen sofar = Closes mark.CloseParen sofar
-
-after_closing : {tokens rest : List Token} {closing : Token} → tokens ≡ closing ∷ rest → closing.kind ≡ kind.Mark mark.CloseParen → BeginsOtherThan (kind.Mark mark.Comma) tokens
-after_closing {rest = rest} {closing = closing} split same = subst (λ (x : List Token). BeginsOtherThan (kind.Mark mark.Comma) x) (sym split) (other closing rest same)
-  where
-    other : (closing : Token) (rest : List Token) → closing.kind ≡ kind.Mark mark.CloseParen → BeginsOtherThan (kind.Mark mark.Comma) (closing ∷ rest)
-    other closing rest same = λ comma. cc
-
--- the parenthesis behind the last argument
-pub last_rule : (sofar : List Expr) → Same (IsTokenThen sofar) (λ tokens rest args. BeginsOtherThan (kind.Mark mark.Comma) tokens × SpellsMoreClosed sofar tokens rest args) stops_anywhere
-last_rule sofar = record {
-  there = λ tokens rest args d. (after_closing d.1 d.2, (d.0, [], subst (λ (x : List Token). SpellsMore x (d.0 ∷ rest) []) (sym d.1) no_more, d.2, d.3 ∙ sym (append-nil sofar)));
-  back = λ tokens rest args d s.
-      let ends : (tokens ≡ d.1.0 ∷ rest) × (d.1.1 ≡ []) = last_cut d.1.2 d.0 in
-      (d.1.0, ends.0, d.1.3, d.1.4 ∙ ap (λ x. sofar ++ x) ends.1 ∙ append-nil sofar);
-}

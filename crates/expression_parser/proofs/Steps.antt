@@ -1,5 +1,5 @@
 -- What each reader answers, from what those that it calls answer.
-use Rattle.std.proofs.Common.{pos, inl, inr, ◌⊎◌, ◌≡◌, ◌≤◌, ◌<◌, ℕ, suc, ℤ, Bool, true, false, List, [], ◌∷◌, ◌++◌, Option, Some, None, Result, refl, ap, sym, ◌∙◌, subst, arith}
+use Rattle.std.proofs.Common.{pos, inl, inr, ◌⊎◌, ◌≡◌, ◌≤◌, ◌<◌, ℕ, suc, ℤ, Bool, true, false, List, [], ◌∷◌, Option, Some, None, Result, refl, ap, sym, ◌∙◌, subst, arith}
 use Rattle.std.proofs.lemmas.Bool.Decides.{leb_tells}
 use Rattle.std.proofs.Math.Dec.{leb}
 use Rattle.csl_tree.specs.declared.name.Name.{Name}
@@ -14,14 +14,14 @@ use Rattle.csl_tree.specs.declared.program.Expr.{Expr}
 use Rattle.csl_tree.specs.declared.program.Node.TheVariants as node
 use Rattle.expression_parser.specs.declared.ParseError.{ParseError}
 use Rattle.csl_grammar.specs.Expressions.{SpellsExpr, SpellsChain, SpellsArguments, prefixed, number, truth, named, indexed, called, paren, nothing, level_of, mark_of, prefix_mark, truth_word, expr}
-use Rattle.csl_grammar.specs.Expressions.{binary, whole, call}
+use Rattle.csl_grammar.specs.Expressions.{binary, whole, call, chain, ends, something, SpellsMore, no_more, more}
+use Rattle.csl_grammar.specs.Programs.{MoreOf, no_more as no_more_of, more as more_of, ListOf, nothing as nothing_of, something as something_of}
 use Rattle.csl_grammar.specs.Stops.{BeginsOtherThan, Stops, IsEnded, operator_of}
 use Rattle.expression_parser.specs.Reading.{Found, Refused, Fails, Answers, IsToken, Returns, behind, stops_anywhere, prefix_of, at_mark, number_of, truth_of, truth_of_word, SpellsClosed}
-use Rattle.expression_parser.specs.Reading.{SpellsMoreClosed}
-use Rattle.csl_grammar.proofs.Unique.{operator_of-mark_of}
-use Rattle.expression_parser.proofs.Sequence.{Sequence, Passes, after_first, after_second, second_error, passed_error, passes_second, passes_behind, passes_same, passes_through, passed, refused_here}
-use Rattle.expression_parser.proofs.Rules.{level_rule, chain_rule, chain_found, returns_found, Closes, closes_rule, prefixed_rule, number_rule, truth_rule, called_rule, more_rule, some_rule}
-use Rattle.expression_parser.proofs.Rules.{SpellsSome, known_other, last_rule, IsTokenThen}
+use Rattle.expression_parser.specs.Reading.{Completes, ListUntil, Parting}
+use Rattle.csl_grammar.proofs.Unique.{operator_of-mark_of, unique, stops_at}
+use Rattle.expression_parser.proofs.Sequence.{Sequence, Passes, after_first, after_second, second_error, passed_error, passes_second, passes_behind, passes_same, passed, refused_here}
+use Rattle.expression_parser.proofs.Rules.{level_rule, chain_rule, chain_found, returns_found, Closes, closes_rule, prefixed_rule, number_rule, truth_rule, called_rule, stops_same}
 use Rattle.expression_parser.proofs.Single.{some_token}
 use Rattle.csl_tree.specs.declared.program.UnaryOp.TheVariants as unary_op
 use Rattle.csl_tree.specs.declared.program.BinaryOp.TheVariants as binary_op
@@ -290,61 +290,41 @@ pub nothing_here : (first : Token) (tokens : List Token) → at_mark prefix_of f
 nothing_here first tokens sign h = refused_here (SpellsExpr 0) (Stops 0) first tokens (λ others rest tree d s. begins_nothing d refl sign h) (some_token (kind.Number (pos 0)) ∷ [])
     (expr 0 (node.Number (pos 0))) (λ others. number refl)
 
--- the arguments of a call
-pub no_arguments : (tokens rest : List Token) (closing : Token) (args : List Expr) → args ≡ [] → tokens ≡ closing ∷ rest → closing.kind ≡ kind.Mark mark.CloseParen → IsEnded rest
-    → Found SpellsClosed stops_anywhere tokens rest args
-no_arguments tokens rest closing args none split same ended = record {
-  read = closing ∷ [];
-  split = split;
-  spelled = λ others. let as_args : List Expr → Type 0 = λ x. SpellsArguments (closing ∷ others) (closing ∷ others) x in (closing, subst as_args (sym none) nothing, same);
-  stopped = tt;
-  ended = ended;
+-- the arguments of a call are a list with commas
+more_listed : {ts end : List Token} {es : List Expr} → SpellsMore ts end es → MoreOf (SpellsExpr whole) ts end es
+more_listed no_more = no_more_of
+more_listed (more k d m) = more_of k d (more_listed m)
+
+listed_more : {ts end : List Token} {es : List Expr} → MoreOf (SpellsExpr whole) ts end es → SpellsMore ts end es
+listed_more no_more_of = no_more
+listed_more (more_of k d m) = more k d (listed_more m)
+
+arguments_listed : {ts end : List Token} {es : List Expr} → SpellsArguments ts end es → ListOf (SpellsExpr whole) ts end es
+arguments_listed nothing = nothing_of
+arguments_listed (something d m) = something_of d (more_listed m)
+
+listed_arguments : {ts end : List Token} {es : List Expr} → ListOf (SpellsExpr whole) ts end es → SpellsArguments ts end es
+listed_arguments nothing_of = nothing
+listed_arguments (something_of d m) = something d (listed_more m)
+
+pub arguments_same : (tokens : List Token) → Passes (ListUntil (kind.Mark mark.CloseParen) (SpellsExpr whole)) SpellsClosed stops_anywhere tokens tokens
+arguments_same tokens = passes_same _ SpellsClosed stops_anywhere tokens
+    (record { there = λ ts r es d. (d.0, listed_arguments d.1, d.2); back = λ ts r es d s. (d.0, arguments_listed d.1, d.2) })
+
+pub some_expr : Completes (SpellsExpr whole)
+some_expr = record {
+  ending = some_token (kind.Number (pos 0)) ∷ [];
+  finished = expr 0 (node.Number (pos 0));
+  some = λ others. chain (chain (chain (chain (chain (chain (number refl) ends) ends) ends) ends) ends) ends;
 }
 
-module _ (tokens : List Token) (first : Token) (behind_it : List Token) (split : tokens ≡ first ∷ behind_it) (other : first.kind ≡ kind.Mark mark.CloseParen → ⊥) where
-  some_passes : Passes SpellsSome SpellsClosed stops_anywhere tokens tokens
-  some_passes = known_other (kind.Mark mark.CloseParen) SpellsClosed stops_anywhere tokens (not_first tokens first behind_it split other)
-
-  pub some_err : (e : ParseError) → Fails (SpellsExpr whole) (Stops whole) tokens e → Fails SpellsClosed stops_anywhere tokens e
-  some_err e h =
-      passed_error SpellsSome SpellsClosed stops_anywhere tokens tokens e some_passes
-      (after_first (SpellsExpr whole) (Stops whole) (λ x. SpellsMoreClosed (x ∷ [])) SpellsSome stops_anywhere some_rule tokens e h)
-
-  pub some_begun : (middle : List Token) (e : Expr) (args : List Expr) → args ≡ e ∷ [] → Found (SpellsExpr whole) (Stops whole) tokens middle e
-      → Passes (SpellsMoreClosed args) SpellsClosed stops_anywhere middle tokens
-  some_begun middle e args is f =
-      let with_args : List Expr → Type 0 = λ x. Passes (SpellsMoreClosed x) SpellsClosed stops_anywhere middle tokens in
-      subst with_args (sym is) (passes_through (passes_second (SpellsExpr whole) (Stops whole) (λ x. SpellsMoreClosed (x ∷ [])) SpellsSome stops_anywhere some_rule tokens middle e f) some_passes)
-
-module _ (tokens rest : List Token) (sofar : List Expr) (passes : Passes (SpellsMoreClosed sofar) SpellsClosed stops_anywhere rest tokens) where
-  comma_passes : (comma : Token) (left : List Token) → rest ≡ comma ∷ left → Passes (behind comma (SpellsMoreClosed sofar)) SpellsClosed stops_anywhere left tokens
-  comma_passes comma left split = passes_through (passes_behind (SpellsMoreClosed sofar) stops_anywhere comma left rest split) passes
-
-  pub more_err : (comma : Token) (left : List Token) (e : ParseError) → rest ≡ comma ∷ left → comma.kind ≡ kind.Mark mark.Comma → Fails (SpellsExpr whole) (Stops whole) left e
-      → Fails SpellsClosed stops_anywhere tokens e
-  more_err comma left e split same h =
-      passed_error (behind comma (SpellsMoreClosed sofar)) SpellsClosed stops_anywhere left tokens e (comma_passes comma left split)
-      (after_first (SpellsExpr whole) (Stops whole) (λ x. SpellsMoreClosed (sofar ++ x ∷ [])) (behind comma (SpellsMoreClosed sofar)) stops_anywhere (more_rule sofar comma same) left e h)
-
-  pub more_passes : (comma : Token) (left middle : List Token) (e : Expr) (args : List Expr) → args ≡ sofar ++ e ∷ [] → rest ≡ comma ∷ left → comma.kind ≡ kind.Mark mark.Comma
-      → Found (SpellsExpr whole) (Stops whole) left middle e → Passes (SpellsMoreClosed args) SpellsClosed stops_anywhere middle tokens
-  more_passes comma left middle e args is split same f =
-      let with_args : List Expr → Type 0 = λ x. Passes (SpellsMoreClosed x) SpellsClosed stops_anywhere middle tokens in
-      subst with_args (sym is) (passes_through (passes_second (SpellsExpr whole) (Stops whole) (λ x. SpellsMoreClosed (sofar ++ x ∷ [])) (behind comma (SpellsMoreClosed sofar)) stops_anywhere
-      (more_rule sofar comma same) left middle e f) (comma_passes comma left split))
-
-  closing_passes : BeginsOtherThan (kind.Mark mark.Comma) rest → Passes (IsTokenThen sofar) SpellsClosed stops_anywhere rest tokens
-  closing_passes other = passes_through (passes_same _ _ stops_anywhere rest (last_rule sofar))
-      (passes_through (known_other (kind.Mark mark.Comma) (SpellsMoreClosed sofar) stops_anywhere rest other) passes)
-
-  pub last_err : (e : ParseError) → BeginsOtherThan (kind.Mark mark.Comma) rest → Fails (IsToken (kind.Mark mark.CloseParen)) stops_anywhere rest e → Fails SpellsClosed stops_anywhere tokens e
-  last_err e other h =
-      passed_error (IsTokenThen sofar) SpellsClosed stops_anywhere rest tokens e (closing_passes other)
-      (after_first (IsToken (kind.Mark mark.CloseParen)) stops_anywhere (λ closing. Returns sofar) (IsTokenThen sofar) stops_anywhere (closes_rule mark.CloseParen sofar stops_anywhere) rest e h)
-
-  pub last_ok : (left : List Token) (closing : Token) → BeginsOtherThan (kind.Mark mark.Comma) rest → Found (IsToken (kind.Mark mark.CloseParen)) stops_anywhere rest left closing
-      → Found SpellsClosed stops_anywhere tokens left sofar
-  last_ok left closing other f =
-      (closing_passes other).found left sofar
-      ((passes_second (IsToken (kind.Mark mark.CloseParen)) stops_anywhere (λ closing. Returns sofar) (IsTokenThen sofar) stops_anywhere (closes_rule mark.CloseParen sofar stops_anywhere) rest left
-      closing f).found left sofar (returns_found sofar stops_anywhere left tt f.ended))
+pub arguments_parted : Parting (kind.Mark mark.CloseParen) (SpellsExpr whole) (Stops whole)
+arguments_parted = record {
+  unique = λ tokens middle middle' e e' d d' s s'. unique d d' refl s s';
+  same_first = stops_same whole;
+  at_end = λ token ts h. stops_at h refl (λ e. cc) (λ e. cc);
+  at_comma = λ token ts h. stops_at h refl (λ e. cc) (λ e. cc);
+  no_comma = λ h. cc;
+  no_end = λ h. cc;
+  sample = some_expr;
+}

@@ -16,7 +16,7 @@ use Rattle.csl_grammar.specs.Stops.{IsEnded}
 use Rattle.csl_tree.specs.declared.name.Name.{Name}
 use Rattle.csl_tree.specs.declared.program.ArraySize.{ArraySize}
 use Rattle.csl_grammar.specs.Programs.{Each, MoreOf, ListOf}
-use Rattle.csl_grammar.specs.Expressions.{SpellsArguments, SpellsMore}
+use Rattle.csl_grammar.specs.Expressions.{SpellsArguments}
 
 -- The tree stands at the front of the tokens, whatever follows it, and cannot go on with what does.
 pub record Found {T : Type 0} (spells : List Token → List Token → T → Type 0) (stops : List Token → Type 0) (tokens rest : List Token)
@@ -122,11 +122,6 @@ Returns known tokens rest tree = (tokens ≡ rest) × (tree ≡ known)
 abbrev pub SpellsClosed : List Token → List Token → List Expr → Type 0
 SpellsClosed tokens rest args = (closing : Token) × SpellsArguments tokens (closing ∷ rest) args
     × (closing.kind ≡ kind.Mark mark.CloseParen)
-
--- the same where some arguments were read already
-abbrev pub SpellsMoreClosed : List Expr → List Token → List Token → List Expr → Type 0
-SpellsMoreClosed sofar tokens rest args = (closing : Token) × (es : List Expr) × SpellsMore tokens (closing ∷ rest) es
-    × (closing.kind ≡ kind.Mark mark.CloseParen) × (args ≡ sofar ++ es)
 
 -- the tokens begin with a token of that kind
 abbrev pub BeginsAs : TokenKind → List Token → Type 0

@@ -28,7 +28,8 @@ use Rattle.expression_parser.proofs.Rules.{stops_same}
 use Rattle.expression_parser.proofs.Single.{some_token, token_found}
 use Rattle.expression_parser.proofs.Then.{Follows, completes_ret, completes_tok, completes_name, completes_then, completes_until, tok_follows}
 use Rattle.expression_parser.proofs.Then.{then_passes, tok_found, narrowed, narrowed_by, begins_other}
-use Rattle.statement_parser.proofs.StatementParts.{some_expr, some_change, ends_as, expr_before}
+use Rattle.expression_parser.proofs.Steps.{some_expr}
+use Rattle.statement_parser.proofs.StatementParts.{some_change, ends_as, expr_before}
 
 abbrev brace : TokenKind
 brace = kind.Mark mark.CloseBrace

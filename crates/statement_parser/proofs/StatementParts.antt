@@ -1,5 +1,5 @@
 -- The rules of simple statements, each as one part and then another.
-use Rattle.std.proofs.Common.{◌≡◌, ◌≤◌, pos, List, [], ◌∷◌, Some, None, refl, ap, sym, ◌∙◌, subst, arith}
+use Rattle.std.proofs.Common.{◌≡◌, ◌≤◌, List, [], ◌∷◌, Some, None, refl, ap, sym, ◌∙◌, subst, arith}
 use Rattle.csl_tree.specs.declared.name.Name.{Name}
 use Rattle.csl_tree.specs.declared.token.Token.{Token}
 use Rattle.csl_tree.specs.declared.token.TokenKind.{TokenKind}
@@ -14,11 +14,10 @@ use Rattle.csl_tree.specs.declared.program.Place.{Place}
 use Rattle.csl_tree.specs.declared.program.Item.{Item}
 use Rattle.csl_tree.specs.declared.program.Item.TheVariants as item
 use Rattle.csl_tree.specs.declared.program.Stmt.{Stmt}
-use Rattle.csl_tree.specs.declared.program.Node.TheVariants as node
 use Rattle.csl_tree.specs.declared.program.Form.TheVariants as form
 use Rattle.csl_tree.specs.declared.program.BinaryOp.{BinaryOp}
 use Rattle.csl_tree.specs.declared.program.BinaryOp.TheVariants as binary_op
-use Rattle.csl_grammar.specs.Expressions.{SpellsExpr, chain, number, ends, whole, level_of, mark_of, expr, place, call, nothing as no_arguments}
+use Rattle.csl_grammar.specs.Expressions.{SpellsExpr, whole, level_of, mark_of, place, call, nothing as no_arguments}
 use Rattle.csl_grammar.specs.Stops.{IsEnded, BeginsOtherThan, Stops, operator_of}
 use Rattle.csl_grammar.specs.Programs.{type_word, stmt, SpellsPlace, bare, indexed, SpellsCall, called, SpellsDecl, declare, SpellsChange, set, add_to, SpellsItem, text, value}
 use Rattle.csl_grammar.specs.Programs.{SpellsStmt, declared, changed, calls}
@@ -32,19 +31,12 @@ use Rattle.expression_parser.specs.Reading.{Completes, Parting, behind, stops_an
 use Rattle.statement_parser.specs.Statements.{NoElse, EndsAs, DeclRest, Changing, IndexedRest, ChangeRest, CallRest, ReturnRest, SecondName, both}
 use Rattle.expression_parser.proofs.Sequence.{Passes, passes_same, passes_through, refused_here}
 use Rattle.expression_parser.proofs.Rules.{stops_same, unique_closed}
-use Rattle.expression_parser.proofs.Steps.{operator_kind}
+use Rattle.expression_parser.proofs.Steps.{operator_kind, some_expr}
 use Rattle.expression_parser.proofs.Single.{some_token, token_found}
 use Rattle.expression_parser.proofs.Then.{Follows, completes_ret, completes_tok, completes_name, completes_then, completes_this, completes_list, tok_follows, name_follows}
 use Rattle.expression_parser.proofs.Then.{then_passes, tok_found, ret_found, narrowed, narrowed_by, passes_this, passes_that, begins_other, no_name}
 
 -- ---- what completes
-
-pub some_expr : Completes (SpellsExpr whole)
-some_expr = record {
-  ending = some_token (kind.Number (pos 0)) ∷ [];
-  finished = expr 0 (node.Number (pos 0));
-  some = λ others. chain (chain (chain (chain (chain (chain (number refl) ends) ends) ends) ends) ends) ends;
-}
 
 pub ends_as : (s : Stmt) → Completes (EndsAs s)
 ends_as s = completes_then (completes_tok (kind.Mark mark.Semicolon)) (λ end. completes_ret s)

@@ -7,11 +7,12 @@ use Rattle.csl_tree.specs.declared.program.Expr.{Expr}
 use Rattle.csl_tree.specs.declared.program.Node.TheVariants as node
 use Rattle.csl_grammar.specs.Expressions.{SpellsExpr, level_of, expr, place}
 use Rattle.csl_grammar.specs.Stops.{Stops}
-use Rattle.expression_parser.specs.Reading.{behind}
+use Rattle.expression_parser.specs.Reading.{behind, stops_anywhere}
 use Rattle.expression_parser.proofs.Rules.{paren_rule, indexed_rule, named_found, stops_here}
 use Rattle.expression_parser.proofs.Steps.{operator_kind, level_err, level_ok, chain_err, chain_ok, chain_done, from_first, prefixed_err, prefixed_ok, inside_err, closing_err, closed_ok, called_err}
-use Rattle.expression_parser.proofs.Steps.{called_ok, number_ok, truth_ok, nothing_here, no_arguments, some_err, some_begun, more_err, more_passes, last_err, last_ok}
-use Rattle.expression_parser.proofs.Single.{ended_behind}
+use Rattle.expression_parser.proofs.Steps.{called_ok, number_ok, truth_ok, nothing_here, arguments_same, arguments_parted}
+use Rattle.expression_parser.proofs.Sequence.{passed_error, passes_through}
+use Rattle.expression_parser.proofs.Then.{begins_other, list_nothing, list_err, list_begun, more_err, more_step, last_err, last_ok}
 use mir.Val.{SFits}
 use mir.Syntax.{w64}
 use Rattle.std.proofs.lemmas.Int.{to_z-of_z}
@@ -20,44 +21,49 @@ use Rattle.expression_parser.proofs.expr.+expr.Goals.{chain-in_default-via-in-So
 
 pub arguments-returns-then-is_mark-clause-answer : goal.arguments-returns-then-is_mark-clause-answer
 arguments-returns-then-is_mark-clause-answer t c =
-    no_arguments c.args.tokens.now _ _ _ c.new-args.ensures c.front.ensures (c.if-is_mark.ensures.0 refl)
-    (ended_behind c.args.tokens.now _ _ c.requires c.front.ensures (λ h. cc (c.if-is_mark.ensures.0 refl)))
+    rw c.new-args.ensures ((arguments_same c.args.tokens.now).found _ _
+    (list_nothing arguments_parted c.args.tokens.now _ _ c.requires c.front.ensures (c.if-is_mark.ensures.0 refl)))
 
 pub arguments-returns-in_err-e-clause-answer : goal.arguments-returns-in_err-e-clause-answer
 arguments-returns-in_err-e-clause-answer t c =
     let p = err_from_is_err_and c.from_residual.result c.from_residual.ensures.1 in
-    rw (p.1, p.2) (some_err c.args.tokens.now _ _ c.front.ensures (λ h. cc (c.if-is_mark.ensures.1 h)) _ c.in_err-e.ensures.answer)
+    rw (p.1, p.2) (passed_error _ _ stops_anywhere _ c.args.tokens.now _ (arguments_same c.args.tokens.now)
+    (list_err arguments_parted c.args.tokens.now _ (begins_other _ c.args.tokens.now _ _ c.front.ensures (λ h. cc (c.if-is_mark.ensures.1 h))) c.in_err-e.ensures.answer))
 
 pub arguments-more-init : goal.arguments-more-init
 arguments-more-init t c =
     record {
       ended = c.in_ok-e.ensures.answer.ended;
       shorter = omega (arith, c.in_ok-e.ensures.shorter);
-      passes = some_begun c.args.tokens.now _ _ c.front.ensures (λ h. cc (c.if-is_mark.ensures.1 h)) _ _ _ (c.in_ok-push.ensures.ok ∙ ap (λ (x : List Expr). x ++ c.in_ok-e.e ∷ []) c.new-args.ensures)
-          c.in_ok-e.ensures.answer;
+      passes = rw (c.in_ok-push.ensures.ok ∙ ap (λ (x : List Expr). x ++ c.in_ok-e.e ∷ []) c.new-args.ensures) (passes_through
+          (list_begun arguments_parted c.args.tokens.now _ _ (begins_other _ c.args.tokens.now _ _ c.front.ensures (λ h. cc (c.if-is_mark.ensures.1 h))) c.in_ok-e.ensures.answer)
+          (arguments_same c.args.tokens.now));
     }
 
 pub arguments-returns-in_err-e-2-clause-answer : goal.arguments-returns-in_err-e-2-clause-answer
 arguments-returns-in_err-e-2-clause-answer t c =
     let p = err_from_is_err_and c.from_residual-in_err-e-2.result c.from_residual-in_err-e-2.ensures.1 in
-    rw (p.1, p.2) (more_err c.args.tokens.now _ _ c.more.invariant.passes c.in-Some.ensures.0 _ _ c.in-Some.ensures.1.0 c.in-Some.ensures.1.1 c.in_err-e-2.ensures.answer)
+    rw (p.1, p.2) (passed_error _ _ stops_anywhere _ c.args.tokens.now _ c.more.invariant.passes
+    (more_err arguments_parted c.more.args c.more.rest.now c.in-Some.ensures.0 _ _ c.more.invariant.ended c.in-Some.ensures.1.0 c.in-Some.ensures.1.1 c.in_err-e-2.ensures.answer))
 
 pub arguments-more-preserved : goal.arguments-more-preserved
 arguments-more-preserved t c =
     record {
       ended = c.in_ok-e-2.ensures.answer.ended;
       shorter = omega (arith, c.in_ok-e-2.ensures.shorter, c.more.invariant.shorter, ap (λ (x : List Token). length x) c.in-Some.ensures.1.0);
-      passes = more_passes c.args.tokens.now _ _ c.more.invariant.passes c.in-Some.ensures.0 _ _ _ _ c.in_ok-push-2.ensures.ok c.in-Some.ensures.1.0 c.in-Some.ensures.1.1 c.in_ok-e-2.ensures.answer;
+      passes = rw c.in_ok-push-2.ensures.ok (passes_through (more_step arguments_parted c.more.args c.more.rest.now c.in-Some.ensures.0 _ _ _ c.more.invariant.ended c.in-Some.ensures.1.0
+          c.in-Some.ensures.1.1 c.in_ok-e-2.ensures.answer) c.more.invariant.passes);
     }
 
 pub arguments-returns-in_err-rest-clause-answer : goal.arguments-returns-in_err-rest-clause-answer
 arguments-returns-in_err-rest-clause-answer t c =
     let p = err_from_is_err_and c.from_residual-in_err-rest.result c.from_residual-in_err-rest.ensures.1 in
-    rw (p.1, p.2) (last_err c.args.tokens.now _ _ c.more.invariant.passes _ c.in_default.ensures c.in_err-rest.ensures.answer)
+    rw (p.1, p.2) (passed_error _ _ stops_anywhere _ c.args.tokens.now _ c.more.invariant.passes
+    (last_err arguments_parted c.more.args c.more.rest.now _ c.in_default.ensures c.in_err-rest.ensures.answer))
 
 pub arguments-returns-clause-answer : goal.arguments-returns-clause-answer
 arguments-returns-clause-answer t c =
-    last_ok c.args.tokens.now _ _ c.more.invariant.passes _ _ c.in_default.ensures c.in_ok-rest.ensures.answer
+    c.more.invariant.passes.found _ _ (last_ok arguments_parted c.more.args c.more.rest.now _ _ c.in_default.ensures c.in_ok-rest.ensures.answer)
 
 pub called-returns-in_err-args-clause-answer : goal.called-returns-in_err-args-clause-answer
 called-returns-in_err-args-clause-answer t c =

@@ -1,6 +1,9 @@
 use Rattle.std.proofs.Common.{◌+◌, ◌*◌, ◌≤◌, length}
+use Rattle.csl_tree.specs.declared.token.TokenKind.TheVariants as kind
+use Rattle.csl_tree.specs.declared.token.Mark.TheVariants as mark
+use Rattle.csl_grammar.specs.Expressions.{SpellsExpr, whole}
 use Rattle.csl_grammar.specs.Stops.{IsEnded}
-use Rattle.expression_parser.specs.Reading.{SpellsClosed, SpellsMoreClosed, stops_anywhere}
+use Rattle.expression_parser.specs.Reading.{SpellsClosed, MoreUntil, stops_anywhere}
 use Rattle.expression_parser.proofs.Sequence.{Passes}
 use Rattle.expression_parser.proofs.expr.+expr.Given as goal
 
@@ -39,7 +42,7 @@ abbrev pub invariant-arguments-more : goal.invariant-arguments-more
 invariant-arguments-more l = record {
   ended : IsEnded l.rest;
   shorter : length l.rest ≤ length l.tokens;
-  passes : Passes (SpellsMoreClosed l.args) SpellsClosed stops_anywhere l.rest l.tokens;
+  passes : Passes (MoreUntil (kind.Mark mark.CloseParen) (SpellsExpr whole) l.args) SpellsClosed stops_anywhere l.rest l.tokens;
 }
 
 abbrev pub decreases-arguments-more : goal.decreases-arguments-more
