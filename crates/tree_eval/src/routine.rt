@@ -91,8 +91,8 @@ fn is_failure(answer: &Answer) -> bool
     }
 }
 
-/// Appends the answers of a block's routines, and tells whether one has failed by now. Behind one that failed none is asked, since it decides how the
-/// step ends.
+/// Appends the answers of a block's routines, and tells whether one has failed by now. Behind one that failed none is asked: the step ends
+/// by that one's fault or by a conflict of a lower number.
 fn block_answers(
     alloc: Global,
     p: &Names<'_>,
@@ -126,7 +126,8 @@ fn block_answers(
     Ok((memory, failed))
 }
 
-/// The answers of the routines of a step, in the order of their numbers and up to the first that fails, and the opening memory that they were lent.
+/// The answers of the routines of a step, in the order of their numbers and up to the first that fails, and the opening memory that they
+/// were lent.
 pub fn step_answers(
     alloc: Global,
     p: &Names<'_>,
